@@ -11,7 +11,7 @@ use Rattle.candidates.specs.Depths.{cut_at, depths_of, end_at, place_of}
 use Rattle.candidates.specs.Walks.{HasNoSection, IsSection, IsJustFound, IsScene}
 use Rattle.candidates.proofs.Law.{shown}
 
-end_there : (s : Choices) (ds : List Depth) (k i : ℕ) (d : Depth) → k < length ds → d ≡ get_or ds k d → end_at s ds k i ≡ i + (d.size - place_of s i % d.size)
+pub end_there : (s : Choices) (ds : List Depth) (k i : ℕ) (d : Depth) → k < length ds → d ≡ get_or ds k d → end_at s ds k i ≡ i + (d.size - place_of s i % d.size)
 end_there s [] k i d l e = absurd (omega (arith, l))
 end_there s (x ∷ xs) zero i d l e = ap (λ (y : Depth). i + (y.size - place_of s i % y.size)) (sym e)
 end_there s (x ∷ xs) (suc k) i d l e = end_there s xs k i d (omega (arith, l)) e
@@ -21,7 +21,7 @@ end_none s [] k i l = refl
 end_none s (x ∷ xs) zero i l = absurd (omega (arith, l))
 end_none s (x ∷ xs) (suc k) i l = end_none s xs k i (omega (arith, l))
 
-cut_there : (x : GraphValue) (ds : List Depth) (k : ℕ) (d : Depth) → k < length ds → d ≡ get_or ds k d → cut_at x ds k ≡ cut_of d.known x
+pub cut_there : (x : GraphValue) (ds : List Depth) (k : ℕ) (d : Depth) → k < length ds → d ≡ get_or ds k d → cut_at x ds k ≡ cut_of d.known x
 cut_there x [] k d l e = absurd (omega (arith, l))
 cut_there x (y ∷ ys) zero d l e = ap (λ (z : Depth). cut_of z.known x) (sym e)
 cut_there x (y ∷ ys) (suc k) d l e = cut_there x ys k d (omega (arith, l)) e
@@ -52,14 +52,16 @@ block_extends s c n k r v h e =
     let P : GraphValue → Type 0 = λ x. AllExtend s (n - 1) r.end (cut_of r.known x) in
     subst P (ap (candidate s.init c.stretch.page.runs.items) e ∙ sym seen.0) h.extend
 
--- Where the walk has just found what it shows, that is the execution at the number before n.
-pub just_found : (s : Choices) (c : Scene) (n to : ℕ) → IsScene s c → IsJustFound (record { space = s; next = n; to = to; shown = c.graph }) → 1 ≤ c.stretch.size → n ≡ c.stretch.first + c.hit.at + 1
-just_found s c n to v f some =
+-- What is shown stands at its number.
+pub shown_at : (s : Choices) (c : Scene) → IsScene s c → 1 ≤ c.stretch.size → graph_at s (c.stretch.first + c.hit.at) ≡ Some c.graph
+shown_at s c v some =
     let w = v.seen some in
     let at = (v.stretch.whole some).at c.hit.at (v.within some) in
-    let here : graph_at s (c.stretch.first + c.hit.at) ≡ Some c.graph = shown s (c.stretch.first + c.hit.at) (ap is_consistent at ∙ w.1) ∙ ap (λ (x : GraphValue). Some x) (at ∙ sym w.0) in
-    let i = f.once (c.stretch.first + c.hit.at) here in
-    omega (arith, i, f.some)
+    shown s (c.stretch.first + c.hit.at) (ap is_consistent at ∙ w.1) ∙ ap (λ (x : GraphValue). Some x) (at ∙ sym w.0)
+
+-- Where the walk has just found what it shows, that is the execution at the number before n.
+pub just_found : (s : Choices) (c : Scene) (n to : ℕ) → IsScene s c → IsJustFound (record { space = s; next = n; to = to; shown = c.graph }) → 1 ≤ c.stretch.size → n ≡ c.stretch.first + c.hit.at + 1
+just_found s c n to v f some = let i = f.once (c.stretch.first + c.hit.at) (shown_at s c v some) in omega (arith, i, f.some)
 
 -- Then a depth without a block is behind all that there are.
 few_depths : (s : Choices) (c : Scene) (n to k : ℕ) → IsScene s c → HasNoSection c.stretch n k → IsJustFound (record { space = s; next = n; to = to; shown = c.graph }) → length c.stretch.page.depths.items ≤ k

@@ -57,6 +57,10 @@ put_there w zero zs = inl (refl, tt)
 put_there w (suc d) [] = inl (refl, tt)
 put_there w (suc d) (z ∷ zs) = inr (put_there w d zs)
 
+part_in : (w : EventId) (zs : List EventId) → IsPart (w ∷ []) zs → IsIn w zs
+part_in w [] h = absurd h
+part_in w (z ∷ zs) h = elim h [ inl k ↦ inl k.0 | inr k ↦ inr (part_in w zs k) ]
+
 -- each of some writes stands in each of their orders
 in_order : (w : EventId) (ws : List EventId) (i : ℕ) → IsIn w ws → IsPart (w ∷ []) (arrange ws i)
 in_order w [] i h = absurd h
@@ -68,6 +72,9 @@ in_order w (v ∷ ws) i h =
           subst P (sym (insert-put v (i % n) (arrange ws (i / n)))) (subst Q e (put_there w (i % n) (arrange ws (i / n)))))
       | inr m ↦ part_insert (w ∷ []) (arrange ws (i / n)) v (i % n) (in_order w ws (i / n) m)
     ]
+
+pub arrange_in : (w : EventId) (ws : List EventId) (i : ℕ) → IsIn w ws → IsIn w (arrange ws i)
+arrange_in w ws i h = part_in w (arrange ws i) (in_order w ws i h)
 
 pub pairs_part : (x : ℕ) (ws vs : List EventId) (i : ℕ) (yss : List (List EventId)) → ((w : EventId) → IsIn w vs → IsIn w ws) → All (IsPartOfOne ((Initial x ∷ arrange ws i) ∷ yss)) (map (λ v. Initial x ∷ v ∷ []) vs)
 pairs_part x ws [] i yss f = All-nil (IsPartOfOne ((Initial x ∷ arrange ws i) ∷ yss))

@@ -41,3 +41,4 @@ pub mod Pages
 pub mod Renumbering
 pub mod Scenes
 pub mod Openings
+pub mod Within

@@ -55,12 +55,12 @@ all_have : (xs : List EventId) → placed [] xs ≡ xs
 all_have [] = refl
 all_have (x ∷ xs) = ap (λ (zs : List EventId). x ∷ zs) (all_have xs)
 
-in_put : (v w : EventId) (d : ℕ) (xs : List EventId) → IsIn v (put w d xs) → (v ≡ w) ⊎ IsIn v xs
+pub in_put : (v w : EventId) (d : ℕ) (xs : List EventId) → IsIn v (put w d xs) → (v ≡ w) ⊎ IsIn v xs
 in_put v w zero xs h = h
 in_put v w (suc d) [] h = h
 in_put v w (suc d) (x ∷ xs) h = elim h [ inl e ↦ inr (inl e) | inr m ↦ elim (in_put v w d xs m) [ inl e ↦ inl e | inr n ↦ inr (inr n) ] ]
 
-in_arrange : (ws : List EventId) (i : ℕ) (v : EventId) → IsIn v (arrange ws i) → IsIn v ws
+pub in_arrange : (ws : List EventId) (i : ℕ) (v : EventId) → IsIn v (arrange ws i) → IsIn v ws
 in_arrange [] i v h = h
 in_arrange (w ∷ ws) i v h =
     let n : ℕ = suc (length ws) in
@@ -68,7 +68,7 @@ in_arrange (w ∷ ws) i v h =
     elim (in_put v w (i % n) (arrange ws (i / n)) (subst P (insert-put w (i % n) (arrange ws (i / n))) h)) [ inl e ↦ inl e | inr m ↦ inr (in_arrange ws (i / n) v m) ]
 
 -- An order without its first writes is one of the others.
-placed_arranged : (k : ℕ) (ws : List EventId) (i : ℕ) → NoRepeats ws → placed (take k ws) (arrange ws i) ≡ arrange (drop k ws) (i / placings (length ws) k)
+pub placed_arranged : (k : ℕ) (ws : List EventId) (i : ℕ) → NoRepeats ws → placed (take k ws) (arrange ws i) ≡ arrange (drop k ws) (i / placings (length ws) k)
 placed_arranged zero ws i o = all_have (arrange ws i) ∙ ap (arrange ws) (sym (div-one i))
 placed_arranged (suc k) [] i o = refl
 placed_arranged (suc k) (w ∷ ws) i o =
@@ -89,11 +89,11 @@ placed_order runs x k i =
 -- WHAT IS KNOWN OF THE ORDERS
 
 -- these are the locations from x on
-abbrev AreFrom : ℕ → List ℕ → Type 0
+abbrev pub AreFrom : ℕ → List ℕ → Type 0
 AreFrom x [] = Unit {0}
 AreFrom x (y ∷ ys) = (y ≡ x) × AreFrom (suc x) ys
 
-from_tabulate : (n x : ℕ) (g : ℕ → ℕ) → ((i : ℕ) → g i ≡ x + i) → AreFrom x (tabulate n g)
+pub from_tabulate : (n x : ℕ) (g : ℕ → ℕ) → ((i : ℕ) → g i ≡ x + i) → AreFrom x (tabulate n g)
 from_tabulate zero x g h = tt
 from_tabulate (suc n) x g h = (
   h 0 ∙ (let e : x + 0 ≡ x = omega arith in e),

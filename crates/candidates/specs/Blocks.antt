@@ -2,6 +2,7 @@
 -- In a candidate's number what the first read reads from is the slowest to change, and the place of the first write in the order of the
 -- first location the fastest.
 use Rattle.std.specs.Prelude.{◌≡◌, ℕ, zero, suc, ◌*◌, ◌<◌, ◌≤◌, List, [], ◌∷◌, length, take, drop, Some, nat_lt, ◌==◌, if◌then◌else◌}
+use Rattle.events.specs.declared.event.EventId.{EventId}
 use Rattle.events.specs.Cuts.{known_part}
 use Rattle.events.specs.Executions.{ThreadRun, GraphValue}
 use Rattle.events.specs.Extends.{Extends}
@@ -43,6 +44,20 @@ size_by n runs (Orders o) = ways_of_orders runs o.locations o.writes (upto n)
 abbrev pub cut_of : Known → GraphValue → GraphValue
 cut_of (Sources m) x = known_part x m (length x.init) []
 cut_of (Orders o) x = known_part x (length (reads x.runs)) o.locations (take o.writes (later_writes x.runs o.locations))
+
+-- which locations are free where this is known, and which writes of the next one have no place
+abbrev pub free_of : ℕ → Known → ℕ
+free_of n (Sources m) = n
+free_of n (Orders o) = o.locations
+
+abbrev pub unplaced_of : List ThreadRun → Known → List EventId
+unplaced_of runs (Sources m) = []
+unplaced_of runs (Orders o) = take o.writes (later_writes runs o.locations)
+
+-- All sources are known where this is: nothing but orders is open.
+abbrev pub IsAllRead : List ThreadRun → Known → Type 0
+IsAllRead runs (Sources m) = m ≡ length (reads runs)
+IsAllRead runs (Orders o) = Unit {0}
 
 -- What is open is a location's, and no more writes than it has.
 abbrev pub Fits : ℕ → List ThreadRun → Known → Type 0

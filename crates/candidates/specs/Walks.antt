@@ -1,9 +1,9 @@
 -- A walk over the executions of a space, from number to number.
 use Rattle.std.specs.Prelude.{◌≡◌, ℕ, ◌+◌, ◌-◌, ◌%◌, ◌<◌, ◌≤◌, List, [], length, slice_index_or, Option, None, Some, IfSome}
 use Rattle.events.specs.Executions.{GraphValue}
-use Rattle.candidates.specs.Blocks.{AllExtend, Fits, cut_of}
+use Rattle.candidates.specs.Blocks.{AllExtend, Fits, IsAllRead, cut_of}
 use Rattle.candidates.specs.Candidates.{Choices, candidate, graph_at, size_of}
-use Rattle.candidates.specs.Depths.{depths_of}
+use Rattle.candidates.specs.Depths.{depths_of, place_of}
 use Rattle.candidates.specs.declared.reading.Hit.{Hit}
 use Rattle.candidates.specs.declared.reading.Look.{Look}
 use Rattle.candidates.specs.declared.reading.Look.TheVariants.{Found, Until}
@@ -146,3 +146,12 @@ pub record IsJustFound (w : Walking) : Type 0 where
 -- the depths of the blocks around the execution that the walk shows
 abbrev pub depths_around : Walking → List Depth
 depths_around w = depths_of (length w.space.init) w.shown.runs
+
+-- A block of this depth begins with the execution that the walk found last, and ends within the walk's own numbers; nothing but orders is open in it.
+pub record IsBegun (w : Walking) (depth : ℕ) : Type 0 where
+  pub at : Depth
+  pub inside : depth < length (depths_around w)
+  pub there : at ≡ slice_index_or (depths_around w) depth at
+  pub read : IsAllRead w.shown.runs at.known
+  pub first : place_of w.space (w.next - 1) % at.size ≡ 0
+  pub within : w.next - 1 + at.size ≤ w.to

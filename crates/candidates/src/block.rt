@@ -3,7 +3,7 @@
 ghost use Rattle.std.specs.Prelude.{◌≡◌, length};
 ghost use Rattle.events.specs.Executions.{GraphValue};
 ghost use Rattle.events.specs.Cuts.{cut_down};
-ghost use Rattle.candidates.specs.Blocks.{Fits, cut_of};
+ghost use Rattle.candidates.specs.Blocks.{Fits, cut_of, free_of, unplaced_of};
 ghost use Rattle.candidates.specs.Readings.{IsPage};
 
 use crate::depths::Known;
@@ -21,7 +21,8 @@ pub struct Block<'a> {
 pub(crate) fn cut_to(page: &Page, locations: usize, known: Known) -> Cut<'_>
     requires page { IsPage locations page.now }
     requires known { Fits locations page.now.runs.items known }
-    ensures { (x : GraphValue) → length x.init ≡ locations → x.runs ≡ page.now.runs.items → cut_down x result ≡ cut_of known x }
+    ensures cut { (x : GraphValue) → length x.init ≡ locations → x.runs ≡ page.now.runs.items → cut_down x result ≡ cut_of known x }
+    ensures parts { (result.locations ≡ free_of locations known) × (result.unplaced.now ≡ unplaced_of page.now.runs.items known) }
 {
     match known {
         Known::Sources(count) => Cut {

@@ -23,6 +23,6 @@ mod walk;
 pub use assembly::{nothing, write_value};
 pub use block::Block;
 pub use fault::SpaceFault;
-pub use open_orders::OpenOrders;
+pub use open_orders::{Open, OpenOrders};
 pub use space::Space;
 pub use walk::{PausedWalk, Walk};

@@ -3,19 +3,20 @@
 ghost use Rattle.std.specs.Prelude.{◌≡◌, ◌+◌, ◌-◌, ◌<◌, ◌≤◌, ℕ, List, [], length, max, min, true, Some, None, IfOk, IfSome, OnOk, OnErr, MatchOption};
 ghost use Rattle.events.specs.Executions.{GraphValue, ThreadRun};
 ghost use Rattle.candidates.specs.Executions.{block};
-ghost use Rattle.candidates.specs.Alike.{AreAlike};
+ghost use Rattle.candidates.specs.Alike.{AllWithin, AreAlike};
 ghost use Rattle.events.specs.Cuts.{cut_down};
+ghost use Rattle.events.specs.Opened.{opened};
 ghost use Rattle.candidates.specs.Blocks.{AllExtend};
 ghost use Rattle.candidates.specs.Candidates.{Choices, candidate, graph_at, size_of, no_execution};
 ghost use Rattle.candidates.specs.Depths.{cut_at, end_at};
 ghost use Rattle.candidates.specs.Levels.{ArePlaced};
 ghost use Rattle.candidates.specs.Readings.{IsKnown, IsPage, IsSeen, MayBeStretch};
-ghost use Rattle.candidates.specs.Walks.{IsAhead, IsFind, IsFound, IsHit, IsJustFound, IsMiss, IsNear, IsNumberOf, IsPausedIn, IsPlace, IsReached, IsScene, IsSection, IsVisit, IsWithin, HasNoSection, depths_around};
+ghost use Rattle.candidates.specs.Walks.{IsAhead, IsBegun, IsFind, IsFound, IsHit, IsJustFound, IsMiss, IsNear, IsNumberOf, IsPausedIn, IsPlace, IsReached, IsScene, IsSection, IsVisit, IsWithin, HasNoSection, depths_around};
 
 use crate::assembly::{assemble, assemble_in, no_parts, nothing, turned};
 use crate::block::{Block, cut_to};
 use crate::depths::Known;
-use crate::open_orders::{OpenOrders, open_orders};
+use crate::open_orders::{Open, OpenOrders, open_at, open_orders};
 use crate::page::{Ahead, Page, Scene, Stretch};
 use crate::reading::{Hit, Look, look_at};
 use crate::space::Space;
@@ -351,6 +352,15 @@ fn place_before(stretch: &Stretch, next: u64) -> Option<u64>
     Some(next - stretch.first - 1)
 }
 
+/// How many numbers there are from the one before `next` to `to - 1`.
+fn count_from(next: u64, to: u64) -> u64
+    requires some { 1 ≤ next }
+    requires order { next ≤ to }
+    ensures { next + result ≡ to + 1 }
+{
+    to - next + 1
+}
+
 /// The block of this depth around the number before `next`, if the stretch has both.
 fn section_before(stretch: &Stretch, next: u64, depth: usize) -> Option<Section>
     requires { (s : Choices) × MayBeStretch s stretch.now }
@@ -483,8 +493,44 @@ impl<'a> Walk<'a> {
         let stretch = &self.scene.stretch;
         let place = place_before(stretch, self.next)?;
         let locations = self.space.init().len();
-        let most = self.to - self.next + 1;
-        Some(open_orders(&stretch.page, locations, place, most))
+        Some(open_orders(
+            &stretch.page,
+            locations,
+            place,
+            count_from(self.next, self.to),
+        ))
+    }
+
+    /// The block of this depth whose first number is that of the execution found last, if it lies within the walk's own numbers and its executions
+    /// differ in their orders alone; none where the walk has passed that execution, or there is no such depth.
+    pub fn open_block(&self, depth: usize) -> Option<Open<'_>>
+        ensures alike { IfSome result (λ o. AreAlike self.now.space (self.now.next - 1) o.orders) }
+        // Each execution of the block is within the one that is shown, with the writes open that have no place in the cut.
+        ensures inside { IfSome result (λ o. AllWithin self.now.space (self.now.next - 1) (self.now.next - 1 + o.orders.size) (opened self.now.shown o.cut)) }
+        ensures within { IfSome result (λ o. self.now.next - 1 + o.orders.size ≤ self.now.to) }
+        // What is open is what isn't known at this depth.
+        ensures cut { IfSome result (λ o. cut_down self.now.shown o.cut ≡ cut_at self.now.shown (depths_around self.now) depth) }
+        // There is one where such a block begins.
+        ensures none { MatchOption result (IsJustFound self.now → ¬ IsBegun self.now depth) (λ _. Unit {0}) }
+        // It ends where blocks of this depth do.
+        ensures end { IfSome result (λ o. self.now.next - 1 + o.orders.size ≡ end_at self.now.space (depths_around self.now) depth (self.now.next - 1)) }
+    {
+        let stretch = &self.scene.stretch;
+        let place = place_before(stretch, self.next)?;
+        if place != self.scene.hit.at {
+            return None;
+        }
+        let at = stretch.page.depths.get(depth)?;
+        let locations = self.space.init().len();
+        let orders = open_at(
+            &stretch.page,
+            locations,
+            at,
+            place,
+            count_from(self.next, self.to),
+        )?;
+        let cut = cut_to(&stretch.page, locations, at.known);
+        Some(Open { orders, cut })
     }
 
     /// The block of this depth around the execution found last; none where the walk has passed that, or there is no such depth.

@@ -44,10 +44,11 @@ pub mod Recalled
 pub mod Scoped
 pub mod Past
 pub mod Behind
-pub mod Sure
 pub mod Moves
 pub mod Beside
+pub mod Carried
 pub mod Refuted
+pub mod Within
 pub mod Grown
 pub mod Aside
 pub mod Among
@@ -58,6 +59,7 @@ pub mod Slots
 pub mod Turns
 pub mod Chained
 pub mod Valued
+pub mod Stocked
 pub mod Extending
 pub mod Twins
 pub mod Told

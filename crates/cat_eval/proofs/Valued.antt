@@ -83,10 +83,10 @@ a_relation n P d =
 pub no_pairs : (n : ℕ) → (v : Value) × IsRelation n (λ i j. ⊥) v
 no_pairs n = a_relation n (λ i j. ⊥) (λ i j. inr (λ z. z))
 
-no_events : (n : ℕ) → (v : Value) × IsSet n (λ i. ⊥) v
+pub no_events : (n : ℕ) → (v : Value) × IsSet n (λ i. ⊥) v
 no_events n = a_set n (λ i. ⊥) (λ i. inr (λ z. z))
 
-every_event : (n : ℕ) → (v : Value) × IsSet n (λ i. Unit {0}) v
+pub every_event : (n : ℕ) → (v : Value) × IsSet n (λ i. Unit {0}) v
 every_event n = a_set n (λ i. Unit {0}) (λ i. inl tt)
 
 -- WHAT IS TOLD OF OPERANDS
@@ -204,14 +204,14 @@ made_two : (A B : Value → Type 0) (Op : Value → Value → Value → Type 0) 
 made_two A B Op f g h = let w : (v : Value) × Op f.0 g.0 v = h f.0 g.0 f.1 g.1 in (w.0, record { left = f.0; right = g.0; given_left = f.1; given_right = g.1; made = w.1 })
 
 -- an expression that has a sort has a value
-abbrev HasValue : ℕ → (Word → Value → Type 0) → Scope → Term → Type 0
+abbrev pub HasValue : ℕ → (Word → Value → Type 0) → Scope → Term → Type 0
 HasValue n E s p = (j : Sort) → HasSort s p j → (v : Value) × Means n E p v
 
 of_relation : (n : ℕ) (E : Word → Value → Type 0) (s : Scope) → Fits E s → (p : Term) (Op : Value → Value → Type 0) → HasSort s p sorts.Relation → HasValue n E s p →
     ((x : Value) → sort_of x ≡ sorts.Relation → (v : Value) × Op x v) → (v : Value) × Made (Means n E p) Op v
 of_relation n E s f p Op h g op = made_one (Means n E p) Op (g sorts.Relation h) (λ x m. op x (means_sort n E s f p sorts.Relation x h m))
 
-sign_value : (n : ℕ) (E : Word → Value → Type 0) (s : Scope) → Fits E s → (u : Sign) (p : Term) → HasValue n E s p → HasValue n E s (applied u p)
+pub sign_value : (n : ℕ) (E : Word → Value → Type 0) (s : Scope) → Fits E s → (u : Sign) (p : Term) → HasValue n E s p → HasValue n E s (applied u p)
 sign_value n E s f signs.Complement p g j h = made_one (Means n E p) IsComplement (g j h) (λ x m. a_complement x)
 sign_value n E s f signs.Plus p g j h = of_relation n E s f p IsPlus h.1 g a_plus
 sign_value n E s f signs.Star p g j h = of_relation n E s f p IsStar h.1 g a_star
@@ -231,7 +231,7 @@ of_sorts : (n : ℕ) (E : Word → Value → Type 0) (s : Scope) → Fits E s �
 of_sorts n E s f p q j Op h k g i op =
     made_two (Means n E p) (Means n E q) Op (g j h) (i j k) (λ x y a b. op x y (means_sort n E s f p j x h a) (means_sort n E s f q j y k b))
 
-infix_value : (n : ℕ) (E : Word → Value → Type 0) (s : Scope) → Fits E s → (o : Infix) (p q : Term) → HasValue n E s p → HasValue n E s q → HasValue n E s (joined o p q)
+pub infix_value : (n : ℕ) (E : Word → Value → Type 0) (s : Scope) → Fits E s → (o : Infix) (p q : Term) → HasValue n E s p → HasValue n E s q → HasValue n E s (joined o p q)
 infix_value n E s f infixes.Union p q g i j h = of_alike n E s f p q j IsUnion h.0 h.1 g i a_union
 infix_value n E s f infixes.Intersection p q g i j h = of_alike n E s f p q j IsIntersection h.0 h.1 g i an_intersection
 infix_value n E s f infixes.Difference p q g i j h = of_alike n E s f p q j IsDifference h.0 h.1 g i a_difference

@@ -1,4 +1,4 @@
-//! How the values of a plan's steps go from an execution to those that go on from it.
+//! How the values of a plan's steps go from one execution to another.
 
 ghost use Rattle.std.specs.Prelude.{◌≡◌, ◌<◌, ◌≤◌, ◌⊎◌, ℕ, List, length, IfOk, OnOk, IsTrue, Some};
 ghost use Rattle.std.specs.List.{slice_get};
@@ -8,7 +8,7 @@ ghost use Rattle.cat_eval.specs.Code.{planned_clause, IsPlanOf};
 ghost use Rattle.cat_eval.specs.Core.{Clause};
 ghost use Rattle.cat_eval.specs.Growth.{IsAtMost, growth_at as growth_in, GoesBy, AreGoing, IsLonger, AreOpen, AreTold, HasRoom, GroupGoes, AreGrown};
 
-use crate::growth::{Growth, of_infix, of_named, of_sign};
+use crate::growth::{Change, Growth, of_infix, of_named, of_sign};
 use crate::plan::PlannedItem;
 use crate::step::Step;
 use cat_tree::Item;
@@ -25,14 +25,14 @@ pub fn growth_at(growths: &[Growth], place: usize) -> Growth
 }
 
 // How the value of a step goes, where those before it go so, and the relations that rounds fill as is said of them.
-fn growth_of(step: Step, before: &[Growth], rounds: Growth) -> Growth
+fn growth_of(step: Step, before: &[Growth], rounds: Growth, change: Change) -> Growth
     requires { IsAtMost Grows rounds }
-    ensures goes { GoesBy before.now (length before.now) step result }
+    ensures goes { GoesBy change before.now (length before.now) step result }
     ensures rounds { step ≡ steps_of.Unknown → result ≡ rounds }
 {
     match step {
         Step::Unknown => rounds,
-        Step::Known(named) => of_named(named),
+        Step::Known(named) => of_named(named, change),
         Step::EmptyRelation | Step::EmptySet | Step::Universe => Growth::Stays,
         Step::Signed(sign, operand) => of_sign(sign, growth_at(before, operand)),
         Step::Joined(operator, left, right) => {
@@ -48,18 +48,19 @@ fn grow_steps(
     steps: &[Step],
     to: usize,
     rounds: Growth,
+    change: Change,
 ) -> Result<(), AllocError>
     requires rounds { IsAtMost Grows rounds }
     requires order { length growths.old.items ≤ to }
     requires inside { to ≤ length steps.now }
-    requires going { AreGoing steps.now growths.old.items }
+    requires going { AreGoing change steps.now growths.old.items }
     ensures long { OnOk result (length growths.new.items ≡ to) }
-    ensures going { OnOk result (AreGoing steps.now growths.new.items) }
+    ensures going { OnOk result (AreGoing change steps.now growths.new.items) }
     ensures more { OnOk result (IsLonger growths.old.items growths.new.items) }
     ensures rounds { OnOk result ((k : ℕ) → length growths.old.items ≤ k → k < to → slice_get steps.now k ≡ Some steps_of.Unknown → growth_in growths.new.items k ≡ rounds) }
 {
     for place in growths.len()..to {
-        let growth = growth_of(steps[place], growths, rounds);
+        let growth = growth_of(steps[place], growths, rounds, change);
         growths.push(growth)?;
     }
     Ok(())
@@ -84,23 +85,24 @@ fn grow_group(
     steps: &[Step],
     to: usize,
     count: usize,
+    change: Change,
 ) -> Result<(), AllocError>
     requires order { length growths.old.items ≤ to }
     requires inside { to ≤ length steps.now }
     requires count { count ≤ to }
-    requires going { AreGoing steps.now growths.old.items }
+    requires going { AreGoing change steps.now growths.old.items }
     ensures long { OnOk result (length growths.new.items ≡ to) }
-    ensures going { OnOk result (AreGoing steps.now growths.new.items) }
+    ensures going { OnOk result (AreGoing change steps.now growths.new.items) }
     ensures more { OnOk result (IsLonger growths.old.items growths.new.items) }
     ensures group { OnOk result (AreOpen steps.now growths.new.items (length growths.old.items) to ⊎ AreTold growths.new.items to count) }
 {
     let before = growths.len();
-    grow_steps(growths, steps, to, Growth::Grows)?;
+    grow_steps(growths, steps, to, Growth::Grows, change)?;
     if are_told(growths, count) {
         return Ok(());
     }
     growths.truncate(before);
-    grow_steps(growths, steps, to, Growth::Unknown)
+    grow_steps(growths, steps, to, Growth::Unknown, change)
 }
 
 // Adds how the values of an item go.
@@ -108,34 +110,36 @@ fn grow_item<'m>(
     growths: &mut Vec<Growth>,
     steps: &[Step],
     item: &PlannedItem<'m>,
+    change: Change,
 ) -> Result<(), AllocError>
     requires order { length growths.old.items ≤ item.now.to }
     requires inside { item.now.to ≤ length steps.now }
     requires room { HasRoom item.now.to (planned_clause item.now) }
-    requires going { AreGoing steps.now growths.old.items }
+    requires going { AreGoing change steps.now growths.old.items }
     ensures long { OnOk result (length growths.new.items ≡ item.now.to) }
-    ensures going { OnOk result (AreGoing steps.now growths.new.items) }
+    ensures going { OnOk result (AreGoing change steps.now growths.new.items) }
     ensures more { OnOk result (IsLonger growths.old.items growths.new.items) }
     ensures group { OnOk result (GroupGoes steps.now growths.new.items (length growths.old.items) item.now.to (planned_clause item.now)) }
 {
     match item.item {
-        Item::LetRec(bindings) => grow_group(growths, steps, item.to, bindings.len()),
-        _ => grow_steps(growths, steps, item.to, Growth::Unknown),
+        Item::LetRec(bindings) => grow_group(growths, steps, item.to, bindings.len(), change),
+        _ => grow_steps(growths, steps, item.to, Growth::Unknown, change),
     }
 }
 
-/// How the values of a plan's steps go.
+/// How the values of a plan's steps go where an execution so becomes another.
 pub fn grow<'m>(
     alloc: Global,
     steps: &[Step],
     items: &[PlannedItem<'m>],
+    change: Change,
 ) -> Result<Vec<Growth>, AllocError>
     requires { (cores : List Clause) × IsPlanOf cores steps.now items.now }
-    ensures { IfOk result (λ gs. AreGrown steps.now items.now gs.items) }
+    ensures { IfOk result (λ gs. AreGrown change steps.now items.now gs.items) }
 {
     let mut growths = Vec::with_capacity(alloc, steps.len())?;
     for item in items {
-        grow_item(&mut growths, steps, item)?;
+        grow_item(&mut growths, steps, item, change)?;
     }
     Ok(growths)
 }

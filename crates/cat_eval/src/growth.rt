@@ -1,12 +1,21 @@
-//! How values go from an execution to those that go on from it.
+//! How values go from one execution to another.
 
 ghost use Rattle.std.specs.Prelude.{◌≡◌, ◌↔◌, IsTrue};
-ghost use Rattle.cat_eval.specs.Growth.{IsAtMost, both as both_of, without as without_of, signed, joined, growth_of_named};
-ghost use Rattle.cat_eval.specs.declared.growth.Growth.TheVariants.{Grows};
+ghost use Rattle.cat_eval.specs.Growth.{IsAtMost, both as both_of, without as without_of, signed, joined, growth_of_basis, growth_of_named};
+ghost use Rattle.cat_eval.specs.declared.growth.Growth.TheVariants.{Stays, Grows};
 
 use cat_model::Named;
 use cat_tree::{Infix, Sign};
 use events::Basis;
+
+/// How an execution becomes another.
+#[derive(Clone, Copy)]
+pub enum Change {
+    /// It is extended: more is known of it.
+    Extended,
+    /// It is opened: its coherence orders have more pairs, and all else is the same.
+    Opened,
+}
 
 /// How a value goes.
 #[derive(Clone, Copy, PartialEq, Eq)]
@@ -20,6 +29,16 @@ pub enum Growth {
 }
 
 impl Growth {
+    /// Is it known that the value stays the same?
+    pub fn stays(self) -> bool
+        ensures { IsTrue result ↔ (self ≡ Stays) }
+    {
+        match self {
+            Growth::Stays => true,
+            Growth::Grows | Growth::Unknown => false,
+        }
+    }
+
     /// Is it known that the value loses nothing?
     pub fn loses_nothing(self) -> bool
         ensures { IsTrue result ↔ IsAtMost self Grows }
@@ -55,16 +74,27 @@ fn without(first: Growth, second: Growth) -> Growth
     }
 }
 
+// Of what rests on this.
+fn of_basis(basis: Basis, change: Change) -> Growth
+    ensures { result ≡ growth_of_basis change basis }
+{
+    match basis {
+        Basis::Runs => Growth::Stays,
+        Basis::Sources => match change {
+            Change::Extended => Growth::Grows,
+            Change::Opened => Growth::Stays,
+        },
+        Basis::Orders => Growth::Grows,
+    }
+}
+
 /// Of what a name stands for.
-pub fn of_named(named: Named) -> Growth
-    ensures { result ≡ growth_of_named named }
+pub fn of_named(named: Named, change: Change) -> Growth
+    ensures { result ≡ growth_of_named change named }
 {
     match named {
         Named::Set(_) => Growth::Stays,
-        Named::Rel(relation) => match relation.basis() {
-            Basis::Runs => Growth::Stays,
-            Basis::Sources | Basis::Orders => Growth::Grows,
-        },
+        Named::Rel(relation) => of_basis(relation.basis(), change),
     }
 }
 

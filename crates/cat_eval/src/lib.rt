@@ -38,6 +38,7 @@ mod rounds;
 mod scoping;
 mod serving;
 mod sparing;
+mod steady;
 mod step;
 mod steps;
 mod value;

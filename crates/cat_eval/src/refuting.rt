@@ -7,6 +7,7 @@ ghost use Rattle.cat_eval.specs.Judging.{Allowed};
 ghost use Rattle.cat_eval.specs.Code.{planned_clause};
 ghost use Rattle.cat_eval.specs.Extents.{AreAbsent};
 ghost use Rattle.cat_eval.specs.Growth.{AreGrown, IsTelling};
+ghost use Rattle.cat_eval.specs.declared.growth.Change.TheVariants.{Extended};
 ghost use Rattle.cat_eval.specs.Machine.{clauses_of, IsCode, Keeps, HasMade};
 
 use crate::growing::growth_at;
@@ -19,8 +20,8 @@ use crate::value::Value;
 use cat_tree::Item;
 use events::{GraphView, laws};
 
-// Can the item only come to fail? So can a check without a flag and without `~`, whose value loses nothing.
-fn tells<'m>(growths: &[Growth], item: &PlannedItem<'m>) -> bool
+/// Can the item only come to fail? So can a check without a flag and without `~`, whose value loses nothing.
+pub(crate) fn tells<'m>(growths: &[Growth], item: &PlannedItem<'m>) -> bool
     ensures { IsTrue result → IsTelling growths.now item.now.to (planned_clause item.now) }
 {
     match item.item {
@@ -58,13 +59,14 @@ impl Machine<'_, '_, '_> {
     ) -> Option<usize>
         requires code { IsCode self.now.code }
         requires absent { AreAbsent self.now.code.absent.now self.now.view.now }
-        requires grown { AreGrown self.now.code.steps.now self.now.code.items.now growths.now }
+        requires grown { AreGrown Extended self.now.code.steps.now self.now.code.items.now growths.now }
         requires count { count ≤ length self.now.code.items.now }
         requires machine { HasMade self.now values.old made.old }
         ensures machine { HasMade self.now values.new made.new }
         ensures refuted { IfSome result (λ _. (h : GraphValue) → Extends self.now.view.now h → ¬ Allowed (clauses_of self.now.code) h) }
     {
         laws::extension();
+        laws::opening();
         for number in 0..count {
             let item = &self.code.items[number];
             if is_settled(item, *made) {
@@ -91,7 +93,7 @@ pub(crate) fn refutes_by(
 ) -> Option<usize>
     requires code { IsCode code.now }
     requires absent { AreAbsent code.now.absent.now view.now }
-    requires grown { AreGrown code.now.steps.now code.now.items.now growths.now }
+    requires grown { AreGrown Extended code.now.steps.now code.now.items.now growths.now }
     requires count { count ≤ length code.now.items.now }
     requires kept { Keeps view.now code.now kept.old values.old }
     ensures kept { Keeps view.now code.now kept.new values.new }

@@ -1,15 +1,17 @@
 //! What an evaluator works with, beside the items of its model.
 
-ghost use Rattle.std.specs.Prelude.{◌≡◌, ◌↔◌, ◌≤◌, length, map, IfOk, IfSome, IsTrue, OnErr, OnOk, List};
+ghost use Rattle.std.specs.Prelude.{◌≡◌, ◌↔◌, ◌≤◌, length, map, true, IfOk, IfSome, IsTrue, OnErr, OnOk, List};
 ghost use Rattle.listings.specs.Lists.{Lists};
 ghost use Rattle.events.specs.Executions.{GraphValue};
 ghost use Rattle.events.specs.Cuts.{cut_down};
 ghost use Rattle.events.specs.Extends.{Extends};
+ghost use Rattle.events.specs.Opened.{IsWithin, opened};
 ghost use Rattle.events.specs.Structures.{sourced_of, structure_of};
 ghost use Rattle.events.specs.declared.named.Basis.TheVariants.{Sources, Orders};
 ghost use Rattle.cat_eval.specs.Code.{planned_clause};
 ghost use Rattle.cat_eval.specs.Extents.{AreAbsent};
 ghost use Rattle.cat_eval.specs.Growth.{AreGrown};
+ghost use Rattle.cat_eval.specs.declared.growth.Change.TheVariants.{Extended};
 ghost use Rattle.cat_eval.specs.Judging.{Allowed, Raised};
 ghost use Rattle.cat_eval.specs.Machine.{clauses_of, IsCode, Keeps};
 ghost use Rattle.cat_eval.specs.Working.{WorksFor};
@@ -53,7 +55,9 @@ pub(crate) struct Workings {
     pub(crate) growths: Vec<Growth>,
     // So many of the first items that each one behind them can refute nothing.
     pub(crate) telling: usize,
-    // Which of them are asked.
+    // Is it known that what is said of an allowed execution is said of all that are within it?
+    pub(crate) steady: bool,
+    // Which of the first items are asked.
     pub(crate) asked: Asked,
     // A value for each step.
     pub(crate) values: Vec<Value>,
@@ -128,6 +132,30 @@ fn judge_over(
     judge_early_by(alloc, &view, code, kept, values)
 }
 
+// Judges an execution with some writes open, over what it has in common with the one before.
+#[inline(always)]
+fn judge_open_over(
+    alloc: Global,
+    sourced: &SourcedStructure,
+    graph: &Graph,
+    cut: Cut<'_>,
+    code: &Code<'_, '_>,
+    kept: &mut Kept,
+    values: &mut [Value],
+    room: &mut Rel,
+) -> Result<Judgement, AllocError>
+    requires sourced { sourced.now ≡ sourced_of graph.now }
+    requires code { IsCode code.now }
+    requires absent { AreAbsent code.now.absent.now (opened graph.now cut) }
+    requires kept { Keeps (opened graph.now cut) code.now kept.old values.old }
+    ensures kept { Keeps (opened graph.now cut.entry) code.now kept.new values.new }
+    ensures allowed { IfOk result (λ j. IsTrue j.allowed ↔ Allowed (clauses_of code.now) (opened graph.now cut.entry)) }
+    ensures flags { IfOk result (λ j. Lists (λ name. Allowed (clauses_of code.now) (opened graph.now cut.entry) × Raised (clauses_of code.now) (opened graph.now cut.entry) name) j.flags) }
+{
+    let view = GraphView::over_open(sourced, graph, cut, room);
+    judge_early_by(alloc, &view, code, kept, values)
+}
+
 // Looks for what refutes an execution as far as it is known, over what it has in common with the one before.
 #[inline(always)]
 fn refutes_over(
@@ -144,7 +172,7 @@ fn refutes_over(
     requires sourced { sourced.now ≡ sourced_of (cut_down graph.now cut) }
     requires code { IsCode code.now }
     requires absent { AreAbsent code.now.absent.now (cut_down graph.now cut) }
-    requires grown { AreGrown code.now.steps.now code.now.items.now growths.now }
+    requires grown { AreGrown Extended code.now.steps.now code.now.items.now growths.now }
     requires count { count ≤ length code.now.items.now }
     requires kept { Keeps (cut_down graph.now cut) code.now kept.old values.old }
     ensures kept { Keeps (cut_down graph.now cut.entry) code.now kept.new values.new }
@@ -230,6 +258,72 @@ impl Workings {
             &mut self.values,
             &mut self.room,
         )
+    }
+
+    /// Judges the execution that was followed last with some writes open, under a model of these items.
+    #[inline(always)]
+    fn judge_open(
+        &mut self,
+        alloc: Global,
+        items: &[PlannedItem<'_>],
+        graph: &Graph,
+        cut: Cut<'_>,
+    ) -> Result<Judgement, AllocError>
+        requires works { WorksFor items.now self.old }
+        requires absent { AreAbsent self.old.absent.items (opened graph.now cut) }
+        requires followed { self.old.sourced ≡ sourced_of graph.now }
+        ensures works { WorksFor items.now self.new }
+        ensures absent { self.new.absent ≡ self.old.absent }
+        ensures sourced { self.new.sourced ≡ self.old.sourced }
+        ensures allowed { IfOk result (λ j. IsTrue j.allowed ↔ Allowed (map planned_clause items.now) (opened graph.now cut.entry)) }
+        ensures flags { IfOk result (λ j. Lists (λ name. Allowed (map planned_clause items.now) (opened graph.now cut.entry) × Raised (map planned_clause items.now) (opened graph.now cut.entry) name) j.flags) }
+    {
+        laws::bases();
+        let code = Code {
+            items,
+            steps: &self.steps,
+            absent: &self.absent,
+            bases: &self.bases,
+            ends: &self.ends,
+        };
+        judge_open_over(
+            alloc,
+            &self.sourced,
+            graph,
+            cut,
+            &code,
+            &mut self.kept,
+            &mut self.values,
+            &mut self.room,
+        )
+    }
+
+    /// What a model of these items says of all executions within the one that was followed last, with some writes open, if it is known that they are
+    /// allowed.
+    #[inline(always)]
+    pub(crate) fn judge_opened(
+        &mut self,
+        alloc: Global,
+        items: &[PlannedItem<'_>],
+        graph: &Graph,
+        cut: Cut<'_>,
+    ) -> Result<Option<Judgement>, AllocError>
+        requires works { WorksFor items.now self.old }
+        requires absent { AreAbsent self.old.absent.items (opened graph.now cut) }
+        requires followed { self.old.sourced ≡ sourced_of graph.now }
+        ensures works { WorksFor items.now self.new }
+        ensures absent { self.new.absent ≡ self.old.absent }
+        ensures sourced { self.new.sourced ≡ self.old.sourced }
+        ensures allowed { IfOk result (λ o. IfSome o (λ j. (j.allowed ≡ true) × ((h : GraphValue) → IsWithin h (opened graph.now cut.entry) → Allowed (map planned_clause items.now) h))) }
+        ensures flags { IfOk result (λ o. IfSome o (λ j. (h : GraphValue) → IsWithin h (opened graph.now cut.entry) → Lists (λ name. Allowed (map planned_clause items.now) h × Raised (map planned_clause items.now) h name) j.flags)) }
+    {
+        laws::bases();
+        laws::opening();
+        if !self.steady {
+            return Ok(None);
+        }
+        let judgement = self.judge_open(alloc, items, graph, cut)?;
+        Ok(judgement.if_allowed())
     }
 
     /// Whether it is known of the execution that was followed last, cut down, that a model of these items allows none that goes on from it.

@@ -1,5 +1,5 @@
 -- What a set or a relation rests on decides it.
-use Rattle.std.proofs.Common.{◌≡◌, ℕ, List, sym, ap, ◌∙◌, subst, inl, inr, IsTrue}
+use Rattle.std.proofs.Common.{◌≡◌, ℕ, List, refl, sym, ap, ◌∙◌, subst, inl, inr, IsTrue}
 use Rattle.listings.specs.Lists.{StandsAt}
 use Rattle.relations.specs.Events.{EventSet}
 use Rattle.events.specs.declared.event.Access.{Access}
@@ -12,7 +12,7 @@ use Rattle.events.specs.declared.named.RelName.TheVariants.{Po, Int, Ext, Loc, P
 use Rattle.events.specs.declared.named.Basis.TheVariants.{Runs, Sources}
 use Rattle.events.specs.Bases.{basis_of}
 use Rattle.events.specs.Executions.{GraphValue, is_read, is_write}
-use Rattle.events.specs.Named.{access_of, order_of, data_of, control_of, IsRead, IsWrite, IsMemory, IsOfCall, IsAtOneLocation, IsDependency, ReadsFrom, InSet, InRel, NamedSet, NamedRel}
+use Rattle.events.specs.Named.{access_of, order_of, data_of, control_of, IsRead, IsWrite, IsMemory, IsOfCall, IsAtOneLocation, IsDependency, ReadsFrom, IsCoherenceBefore, InSet, InRel, NamedSet, NamedRel}
 use Rattle.events.specs.Structures.{Sourced, structure_of, sourced_of}
 use Rattle.events.proofs.Shapes.{names_same, access_same, location_same, order_same, data_same, control_same, reads_same}
 
@@ -86,7 +86,7 @@ same_on_runs g h e Ctrl b = related g h e Ctrl (λ d f x. by_places d f (control
 same_on_runs g h e Addr b = related g h e Addr (λ d f x. x)
 same_on_runs g h e Id b = related g h e Id (λ d f x. x)
 
-sources_alike : (g h : GraphValue) → sourced_of g ≡ sourced_of h → (d f : EventId) → ReadsFrom g d f → ReadsFrom h d f
+pub sources_alike : (g h : GraphValue) → sourced_of g ≡ sourced_of h → (d f : EventId) → ReadsFrom g d f → ReadsFrom h d f
 sources_alike g h e d f x =
     let P = λ (ds : List EventId). StandsAt ds x.0 f in
     let Q = λ (ds : List EventId). StandsAt ds x.0 d in
@@ -112,3 +112,27 @@ same_on_sources g h e Data b = absurd (let z : ⊥ = cc in z)
 same_on_sources g h e Ctrl b = absurd (let z : ⊥ = cc in z)
 same_on_sources g h e Addr b = absurd (let z : ⊥ = cc in z)
 same_on_sources g h e Id b = absurd (let z : ⊥ = cc in z)
+
+-- Where each read of one execution reads so in the other, and each write stands so before another in coherence, each relation of the one is within
+-- that of the other.
+pub all_within : (g h : GraphValue) → structure_of g ≡ structure_of h → ((d f : EventId) → ReadsFrom g d f → ReadsFrom h d f) → ((d f : EventId) → IsCoherenceBefore g d f → IsCoherenceBefore h d f) →
+    (name : RelName) (i j : ℕ) → NamedRel g name i j → NamedRel h name i j
+all_within g h e r c Po = same_on_runs g h e Po refl
+all_within g h e r c Int = same_on_runs g h e Int refl
+all_within g h e r c Ext = same_on_runs g h e Ext refl
+all_within g h e r c Loc = same_on_runs g h e Loc refl
+all_within g h e r c PoLoc = same_on_runs g h e PoLoc refl
+all_within g h e r c Rf = related g h e Rf r
+all_within g h e r c Co = related g h e Co c
+all_within g h e r c Fr = related g h e Fr (λ d f x. (x.0, r x.0 d x.1, c x.0 f x.2))
+all_within g h e r c Rfi = related g h e Rfi (λ d f x. (r d f x.0, x.1))
+all_within g h e r c Coi = related g h e Coi (λ d f x. (c d f x.0, x.1))
+all_within g h e r c Fri = related g h e Fri (λ d f x. ((x.0.0, r x.0.0 d x.0.1, c x.0.0 f x.0.2), x.1))
+all_within g h e r c Rfe = related g h e Rfe (λ d f x. (r d f x.0, x.1))
+all_within g h e r c Coe = related g h e Coe (λ d f x. (c d f x.0, x.1))
+all_within g h e r c Fre = related g h e Fre (λ d f x. ((x.0.0, r x.0.0 d x.0.1, c x.0.0 f x.0.2), x.1))
+all_within g h e r c Rmw = same_on_runs g h e Rmw refl
+all_within g h e r c Data = same_on_runs g h e Data refl
+all_within g h e r c Ctrl = same_on_runs g h e Ctrl refl
+all_within g h e r c Addr = same_on_runs g h e Addr refl
+all_within g h e r c Id = same_on_runs g h e Id refl

@@ -12,8 +12,9 @@ use Rattle.events.specs.declared.event.EventId.TheVariants.{Initial, Own}
 use Rattle.events.specs.declared.named.RelName.TheVariants.{Co}
 use Rattle.events.specs.Executions.{GraphValue}
 use Rattle.events.specs.Named.{event_names, event_count, IsNumber, NamedRel, StandsBefore, StandsFrom, IsCoherenceBefore}
-use Rattle.events.specs.Cuts.{same_event, is_among, placed, first_before, known_of, known_from, known_part, IsBeforeInOne}
+use Rattle.events.specs.Cuts.{same_event, is_among, placed, first_before, known_of, known_from, IsBeforeInOne}
 use Rattle.events.specs.Rows.{ByNumbers, IsNumberOfOne, IsNumberUnless}
+use Rattle.events.specs.Structures.{structure_of}
 use Rattle.events.proofs.Standing.{stands_below, one_stands}
 use Rattle.events.proofs.Shapes.{names_same}
 use Rattle.events.proofs.Adding.{by_step, number_below, one_number, nothing_more, no_event_more, row_more, event_more}
@@ -45,12 +46,12 @@ pub before_split : (e : EventId) (rest : List EventId) (d f : EventId) → Stand
 before_split e rest d f (zero, at, (b, l, h)) = let k : StandsFrom rest 0 f = from_tail e rest 0 b f (omega (arith, l)) h in inl (at, stands_in rest k.0 f k.2)
 before_split e rest d f (suc a, at, (b, l, h)) = inr (a, at, from_tail e rest (a + 1) b f (omega (arith, l)) h)
 
-before_none : (d f : EventId) → StandsBefore [] d f → ⊥
+pub before_none : (d f : EventId) → StandsBefore [] d f → ⊥
 before_none d f h = h.1
 
 -- AMONG
 
-same_is : (d e : EventId) → same_event d e ≡ true → d ≡ e
+pub same_is : (d e : EventId) → same_event d e ≡ true → d ≡ e
 same_is (Initial x) (Initial y) h = ap Initial (eqb-true x y h)
 same_is (Initial x) (Own l q) h = absurd (false≢true h)
 same_is (Own k p) (Initial y) h = absurd (false≢true h)
@@ -58,7 +59,7 @@ same_is (Own k p) (Own l q) h =
     let b = and_parts (k == l) (p == q) h in
     ap (λ i. Own i p) (eqb-true k l b.0) ∙ ap (λ i. Own l i) (eqb-true p q b.1)
 
-same_self : (d : EventId) → same_event d d ≡ true
+pub same_self : (d : EventId) → same_event d d ≡ true
 same_self (Initial x) = eq-eqb x x refl
 same_self (Own k p) = and_from (k == k) (p == p) (eq-eqb k k refl) (eq-eqb p p refl)
 
@@ -333,65 +334,85 @@ module _ (n : ℕ) (g : GraphValue) (free : ℕ) (ws : List EventId) (x : ℕ) (
         ])
       ]) k)
 
--- d is before e by what is known of the order of one of the first m locations
-abbrev pub IsKnownAmong : GraphValue → ℕ → List EventId → ℕ → EventId → EventId → Type 0
-IsKnownAmong g free ws m d e = (x : ℕ) × (order : List EventId) × (x < m) × StandsAt g.co x order × IsBeforeInOne (known_of free ws x order) d e
+-- WHAT IS TOLD OF EACH ORDER
 
-pub known_on : (n : ℕ) (g : GraphValue) (free : ℕ) (ws : List EventId) (x : ℕ) (order : List EventId) (r t : Relation) → StandsAt g.co x order → IsExactly n (ByNumbers g (IsKnownAmong g free ws x)) r →
-    IsExactly n (λ i j. In r i j ⊎ ByNumbers g (IsBeforeInOne (known_of free ws x order)) i j) t → IsExactly n (ByNumbers g (IsKnownAmong g free ws (x + 1))) t
-known_on n g free ws x order r t at h k =
-    by_step n g (IsKnownAmong g free ws x) (IsBeforeInOne (known_of free ws x order)) (IsKnownAmong g free ws (x + 1)) r t
+-- d is before e by what is told of the order of one of the first m locations
+abbrev pub IsToldAmong : (tells : ℕ → List EventId → List (List EventId)) → GraphValue → ℕ → EventId → EventId → Type 0
+IsToldAmong tells g m d e = (x : ℕ) × (order : List EventId) × (x < m) × StandsAt g.co x order × IsBeforeInOne (tells x order) d e
+
+pub told_on : (n : ℕ) (g : GraphValue) (tells : ℕ → List EventId → List (List EventId)) (x : ℕ) (order : List EventId) (r t : Relation) → StandsAt g.co x order → IsExactly n (ByNumbers g (IsToldAmong tells g x)) r →
+    IsExactly n (λ i j. In r i j ⊎ ByNumbers g (IsBeforeInOne (tells x order)) i j) t → IsExactly n (ByNumbers g (IsToldAmong tells g (x + 1))) t
+told_on n g tells x order r t at h k =
+    by_step n g (IsToldAmong tells g x) (IsBeforeInOne (tells x order)) (IsToldAmong tells g (x + 1)) r t
     (λ d e y. (y.0, y.1, omega (arith, y.2), y.3, y.4))
     (λ d e y. (x, order, omega arith, at, y))
     (λ d e y. elim (cases_eq y.0 x) [
       | inl f ↦ (let P : ℕ → Type 0 = λ b. StandsAt g.co b y.1 in
-          let Q : ℕ → List EventId → Type 0 = λ b o. IsBeforeInOne (known_of free ws b o) d e in
-          let Q1 : ℕ → Type 0 = λ b. Q b y.1 in
-          let Q2 : List EventId → Type 0 = λ o. Q x o in
+          let Q1 : ℕ → Type 0 = λ b. IsBeforeInOne (tells b y.1) d e in
+          let Q2 : List EventId → Type 0 = λ o. IsBeforeInOne (tells x o) d e in
           inr (subst Q2 (one_stands g.co x y.1 order (subst P f y.3) at) (subst Q1 f y.4)))
       | inr f ↦ inl (y.0, y.1, omega (arith, f, y.2), y.3, y.4)
     ]) h k
 
--- the known orders, place by place
-from_known : (free : ℕ) (ws : List EventId) (m : ℕ) (orders : List (List EventId)) (d e : EventId) → IsBeforeInOne (known_from free ws m orders) d e → (x : ℕ) × (order : List EventId) × StandsAt orders x order × IsBeforeInOne (known_of free ws (m + x) order) d e
-from_known free ws m [] d e h = absurd h.1
-from_known free ws m (order ∷ orders) d e h = elim (before_append (known_of free ws m order) (known_from free ws (suc m) orders) d e h) [
-  | inl a ↦ (0, order, refl, (let P : ℕ → Type 0 = λ b. IsBeforeInOne (known_of free ws b order) d e in subst P (omega arith) a))
-  | inr a ↦ (let k = from_known free ws (suc m) orders d e a in
-      let P : ℕ → Type 0 = λ b. IsBeforeInOne (known_of free ws b k.1) d e in
-      let f : suc m + k.0 ≡ m + suc k.0 = omega arith in
-      (suc k.0, k.1, k.2, subst P f k.3))
-]
+-- all gathers what is told of the orders from a location on
+pub record Gathers (tells : ℕ → List EventId → List (List EventId)) (all : ℕ → List (List EventId) → List (List EventId)) : Type 0 where
+  pub nothing : (x : ℕ) → all x [] ≡ []
+  pub next : (x : ℕ) (order : List EventId) (orders : List (List EventId)) → all x (order ∷ orders) ≡ tells x order ++ all (suc x) orders
 
-to_known : (free : ℕ) (ws : List EventId) (m : ℕ) (orders : List (List EventId)) (d e : EventId) (x : ℕ) (order : List EventId) → StandsAt orders x order → IsBeforeInOne (known_of free ws (m + x) order) d e → IsBeforeInOne (known_from free ws m orders) d e
-to_known free ws m [] d e x order at h = absurd at
-to_known free ws m (o ∷ orders) d e zero order at h =
-    let P : List EventId → Type 0 = λ y. IsBeforeInOne (known_of free ws m y) d e in
-    let Q : ℕ → Type 0 = λ b. IsBeforeInOne (known_of free ws b order) d e in
-    let f : m + 0 ≡ m = omega arith in
-    let k : IsBeforeInOne (known_of free ws m o) d e = subst P at (subst Q f h) in
-    (k.0, in_left (known_of free ws m o) (known_from free ws (suc m) orders) k.0 k.1, k.2)
-to_known free ws m (o ∷ orders) d e (suc x) order at h =
-    let Q : ℕ → Type 0 = λ b. IsBeforeInOne (known_of free ws b order) d e in
-    let f : m + suc x ≡ suc m + x = omega arith in
-    let k = to_known free ws (suc m) orders d e x order at (subst Q f h) in
-    (k.0, in_right (known_of free ws m o) (known_from free ws (suc m) orders) k.0 k.1, k.2)
+pub known_gathers : (free : ℕ) (ws : List EventId) → Gathers (known_of free ws) (known_from free ws)
+known_gathers free ws = record { nothing = λ x. refl; next = λ x order orders. refl }
 
-pub known_done : (n : ℕ) (g : GraphValue) (reads free : ℕ) (ws : List EventId) (x : ℕ) (r : Relation) → length g.co ≤ x → IsExactly n (ByNumbers g (IsKnownAmong g free ws x)) r → IsExactly n (NamedRel (known_part g reads free ws) Co) r
+-- what is gathered, place by place
+module _ (tells : ℕ → List EventId → List (List EventId)) (all : ℕ → List (List EventId) → List (List EventId)) (gathers : Gathers tells all) (d e : EventId) where
+  from_gathered : (m : ℕ) (orders : List (List EventId)) → IsBeforeInOne (all m orders) d e → (x : ℕ) × (order : List EventId) × StandsAt orders x order × IsBeforeInOne (tells (m + x) order) d e
+  from_gathered m [] h = let P : List (List EventId) → Type 0 = λ os. IsBeforeInOne os d e in absurd (let z = subst P (gathers.nothing m) h in z.1)
+  from_gathered m (order ∷ orders) h =
+      let P : List (List EventId) → Type 0 = λ os. IsBeforeInOne os d e in
+      elim (before_append (tells m order) (all (suc m) orders) d e (subst P (gathers.next m order orders) h)) [
+        | inl a ↦ (0, order, refl, (let Q : ℕ → Type 0 = λ b. IsBeforeInOne (tells b order) d e in subst Q (omega arith) a))
+        | inr a ↦ (let k = from_gathered (suc m) orders a in
+            let Q : ℕ → Type 0 = λ b. IsBeforeInOne (tells b k.1) d e in
+            let f : suc m + k.0 ≡ m + suc k.0 = omega arith in
+            (suc k.0, k.1, k.2, subst Q f k.3))
+      ]
+
+  to_gathered : (m : ℕ) (orders : List (List EventId)) (x : ℕ) (order : List EventId) → StandsAt orders x order → IsBeforeInOne (tells (m + x) order) d e → IsBeforeInOne (all m orders) d e
+  to_gathered m [] x order at h = absurd at
+  to_gathered m (o ∷ orders) zero order at h =
+      let P : List EventId → Type 0 = λ y. IsBeforeInOne (tells m y) d e in
+      let Q : ℕ → Type 0 = λ b. IsBeforeInOne (tells b order) d e in
+      let R : List (List EventId) → Type 0 = λ os. IsBeforeInOne os d e in
+      let f : m + 0 ≡ m = omega arith in
+      let k : IsBeforeInOne (tells m o) d e = subst P at (subst Q f h) in
+      subst R (sym (gathers.next m o orders)) (k.0, in_left (tells m o) (all (suc m) orders) k.0 k.1, k.2)
+  to_gathered m (o ∷ orders) (suc x) order at h =
+      let Q : ℕ → Type 0 = λ b. IsBeforeInOne (tells b order) d e in
+      let R : List (List EventId) → Type 0 = λ os. IsBeforeInOne os d e in
+      let f : m + suc x ≡ suc m + x = omega arith in
+      let k = to_gathered (suc m) orders x order at (subst Q f h) in
+      subst R (sym (gathers.next m o orders)) (k.0, in_right (tells m o) (all (suc m) orders) k.0 k.1, k.2)
+
+-- what is told of all orders is co of an execution that has these orders
+pub told_done : (n : ℕ) (g k : GraphValue) (tells : ℕ → List EventId → List (List EventId)) (all : ℕ → List (List EventId) → List (List EventId)) → Gathers tells all → structure_of g ≡ structure_of k → k.co ≡ all 0 g.co →
+    (x : ℕ) (r : Relation) → length g.co ≤ x → IsExactly n (ByNumbers g (IsToldAmong tells g x)) r → IsExactly n (NamedRel k Co) r
 unfolding NamedRel
-known_done n g reads free ws x r l h =
-    let k : GraphValue = known_part g reads free ws in
-    let names : event_names g ≡ event_names k = names_same g k refl in
-    let P : ℕ → EventId → List EventId → Type 0 = λ i d ds. StandsAt ds i d in
-    reworded n (ByNumbers g (IsKnownAmong g free ws x)) (NamedRel k Co) r
-    (λ i j y. (let z : IsKnownAmong g free ws x y.0 y.1 = y.4 in
+told_done n g k tells all gathers same co x r l h =
+    let names : event_names g ≡ event_names k = names_same g k same in
+    reworded n (ByNumbers g (IsToldAmong tells g x)) (NamedRel k Co) r
+    (λ i j y. (let z : IsToldAmong tells g x y.0 y.1 = y.4 in
     let P : List EventId → Type 0 = λ ds. StandsAt ds i y.0 in
     let Q : List EventId → Type 0 = λ ds. StandsAt ds j y.1 in
-    let a = to_known free ws 0 g.co y.0 y.1 z.0 z.1 z.3 (let R : ℕ → Type 0 = λ b. IsBeforeInOne (known_of free ws b z.1) y.0 y.1 in let f : z.0 ≡ 0 + z.0 = omega arith in subst R f z.4) in
-    let b = in_stands (known_from free ws 0 g.co) a.0 a.1 in
-    (y.0, y.1, subst P names y.2, subst Q names y.3, (b.0, a.0, b.1, a.2))))
+    let R : ℕ → Type 0 = λ b. IsBeforeInOne (tells b z.1) y.0 y.1 in
+    let f : z.0 ≡ 0 + z.0 = omega arith in
+    let a = to_gathered tells all gathers y.0 y.1 0 g.co z.0 z.1 z.3 (subst R f z.4) in
+    let b = in_stands (all 0 g.co) a.0 a.1 in
+    let S : List (List EventId) → Type 0 = λ os. StandsAt os b.0 a.0 in
+    (y.0, y.1, subst P names y.2, subst Q names y.3, (b.0, a.0, subst S (sym co) b.1, a.2))))
     (λ i j a b y. (let z : IsCoherenceBefore k y.0 y.1 = y.4 in
     let P : List EventId → Type 0 = λ ds. StandsAt ds i y.0 in
     let Q : List EventId → Type 0 = λ ds. StandsAt ds j y.1 in
-    let c = from_known free ws 0 g.co y.0 y.1 (z.1, stands_in (known_from free ws 0 g.co) z.0 z.1 z.2, z.3) in
-    (y.0, y.1, subst P (sym names) y.2, subst Q (sym names) y.3, (c.0, c.1, omega (arith, l, stands_below g.co c.0 c.1 c.2), c.2, (let R : ℕ → Type 0 = λ b. IsBeforeInOne (known_of free ws b c.1) y.0 y.1 in let f : 0 + c.0 ≡ c.0 = omega arith in subst R f c.3))))) h
+    let S : List (List EventId) → Type 0 = λ os. StandsAt os z.0 z.1 in
+    let c = from_gathered tells all gathers y.0 y.1 0 g.co (z.1, stands_in (all 0 g.co) z.0 z.1 (subst S co z.2), z.3) in
+    let R : ℕ → Type 0 = λ b. IsBeforeInOne (tells b c.1) y.0 y.1 in
+    let f : 0 + c.0 ≡ c.0 = omega arith in
+    (y.0, y.1, subst P (sym names) y.2, subst Q (sym names) y.3, (c.0, c.1, omega (arith, l, stands_below g.co c.0 c.1 c.2), c.2, subst R f c.3)))) h

@@ -1,17 +1,16 @@
 -- What extension does to sets and relations.
-use Rattle.std.proofs.Common.{◌≡◌, ◌↔◌, ℕ, zero, suc, ◌+◌, ◌≤◌, List, [], ◌∷◌, ◌++◌, refl, sym, ◌∙◌, subst, inl, inr, arith}
+use Rattle.std.proofs.Common.{◌≡◌, ◌↔◌, ℕ, zero, suc, ◌+◌, ◌≤◌, List, [], ◌∷◌, ◌++◌, sym, ◌∙◌, subst, inl, inr, arith}
 use Rattle.listings.specs.Lists.{StandsAt}
 use Rattle.events.specs.declared.event.EventId.{EventId}
 use Rattle.events.specs.declared.named.SetName.{SetName}
 use Rattle.events.specs.declared.named.RelName.{RelName}
-use Rattle.events.specs.declared.named.RelName.TheVariants.{Po, Int, Ext, Loc, PoLoc, Rf, Co, Fr, Rfi, Coi, Fri, Rfe, Coe, Fre, Rmw, Data, Ctrl, Addr, Id}
 use Rattle.events.specs.declared.named.Basis.TheVariants.{Runs}
 use Rattle.events.specs.Bases.{basis_of}
 use Rattle.events.specs.Executions.{GraphValue, ThreadRun, IsNamed, IsGraph}
-use Rattle.events.specs.Named.{InRel, ReadsFrom, IsCoherenceBefore, StandsFrom, StandsBefore, NamedSet, NamedRel}
+use Rattle.events.specs.Named.{ReadsFrom, IsCoherenceBefore, StandsFrom, StandsBefore, NamedSet, NamedRel}
 use Rattle.events.specs.Structures.{structure_of}
-use Rattle.events.proofs.Bases.{same_sets, same_on_runs}
-use Rattle.events.proofs.Shapes.{names_same, reads_same}
+use Rattle.events.proofs.Bases.{same_sets, same_on_runs, all_within}
+use Rattle.events.proofs.Shapes.{reads_same}
 use Rattle.events.proofs.Structures.{same_structure}
 use Rattle.std.specs.List.{All}
 use Rattle.std.proofs.lemmas.List.Elements.{All-nil, All-cons, All-head, All-tail}
@@ -74,7 +73,7 @@ kept_first z y xs ys d e q f g zero s t =
 kept_first z y xs ys d e q f g (suc a) s t = later y ys d e (g (a, s, unshifted z xs (a + 1) (suc a + 1) e (omega arith) t))
 
 -- what stands before in a part does so in the whole
-part_before : (xs ys : List EventId) (d e : EventId) → IsPart xs ys → StandsBefore xs d e → StandsBefore ys d e
+pub part_before : (xs ys : List EventId) (d e : EventId) → IsPart xs ys → StandsBefore xs d e → StandsBefore ys d e
 part_before [] ys d e p s = absurd s.1
 part_before (z ∷ xs) [] d e p s = absurd p
 part_before (z ∷ xs) (y ∷ ys) d e p s = elim p [
@@ -97,33 +96,8 @@ reads_from g h x w r s =
     let P : List EventId → Type 0 = λ zs. StandsAt zs s.0 r in
     (s.0, subst P (reads_same g h (one_structure g h x)) s.1, begun g.rf h.rf s.0 w x.rf s.2)
 
-pub related : (g h : GraphValue) → Extends g h → (name : RelName) → ((d e : EventId) → InRel g name d e → InRel h name d e) → (i j : ℕ) → NamedRel g name i j → NamedRel h name i j
-unfolding NamedRel
-related g h x name f i j k =
-    let P : List EventId → Type 0 = λ zs. StandsAt zs i k.0 in
-    let Q : List EventId → Type 0 = λ zs. StandsAt zs j k.1 in
-    (k.0, k.1, subst P (names_same g h (one_structure g h x)) k.2, subst Q (names_same g h (one_structure g h x)) k.3, f k.0 k.1 k.4)
-
 pub relations_grow : (g h : GraphValue) → Extends g h → (name : RelName) (i j : ℕ) → NamedRel g name i j → NamedRel h name i j
-relations_grow g h x Po = λ i j. same_on_runs g h (one_structure g h x) Po refl i j
-relations_grow g h x Int = λ i j. same_on_runs g h (one_structure g h x) Int refl i j
-relations_grow g h x Ext = λ i j. same_on_runs g h (one_structure g h x) Ext refl i j
-relations_grow g h x Loc = λ i j. same_on_runs g h (one_structure g h x) Loc refl i j
-relations_grow g h x PoLoc = λ i j. same_on_runs g h (one_structure g h x) PoLoc refl i j
-relations_grow g h x Rf = related g h x Rf (reads_from g h x)
-relations_grow g h x Co = related g h x Co (coherence_before g h x)
-relations_grow g h x Fr = related g h x Fr (λ d e k. (k.0, reads_from g h x k.0 d k.1, coherence_before g h x k.0 e k.2))
-relations_grow g h x Rfi = related g h x Rfi (λ d e k. (reads_from g h x d e k.0, k.1))
-relations_grow g h x Coi = related g h x Coi (λ d e k. (coherence_before g h x d e k.0, k.1))
-relations_grow g h x Fri = related g h x Fri (λ d e k. ((k.0.0, reads_from g h x k.0.0 d k.0.1, coherence_before g h x k.0.0 e k.0.2), k.1))
-relations_grow g h x Rfe = related g h x Rfe (λ d e k. (reads_from g h x d e k.0, k.1))
-relations_grow g h x Coe = related g h x Coe (λ d e k. (coherence_before g h x d e k.0, k.1))
-relations_grow g h x Fre = related g h x Fre (λ d e k. ((k.0.0, reads_from g h x k.0.0 d k.0.1, coherence_before g h x k.0.0 e k.0.2), k.1))
-relations_grow g h x Rmw = λ i j. same_on_runs g h (one_structure g h x) Rmw refl i j
-relations_grow g h x Data = λ i j. same_on_runs g h (one_structure g h x) Data refl i j
-relations_grow g h x Ctrl = λ i j. same_on_runs g h (one_structure g h x) Ctrl refl i j
-relations_grow g h x Addr = λ i j. same_on_runs g h (one_structure g h x) Addr refl i j
-relations_grow g h x Id = λ i j. same_on_runs g h (one_structure g h x) Id refl i j
+relations_grow g h x = all_within g h (one_structure g h x) (reads_from g h x) (coherence_before g h x)
 
 -- GRAPHS
 

@@ -13,4 +13,8 @@ pub mod Exact
 pub mod Direct
 pub mod Grouping
 pub mod Extending
+pub mod Within
+pub mod Deciding
 pub mod Told
+pub mod Decided
+pub mod Opening

@@ -1,5 +1,5 @@
 -- Named relations that are made of others.
-use Rattle.std.proofs.Common.{◌≡◌, ℕ, ◌<◌, Option, None, Some, refl, ◌∙◌, subst, arith}
+use Rattle.std.proofs.Common.{◌≡◌, ℕ, ◌<◌, refl, ◌∙◌, subst, arith}
 use Rattle.relations.specs.Relation.{Relation, In, IsExactly}
 use Rattle.relations.specs.Algebra.{Through}
 use Rattle.relations.specs.Equality.{pair_below}
@@ -8,7 +8,8 @@ use Rattle.events.specs.declared.named.RelName.{RelName}
 use Rattle.events.specs.declared.named.RelName.TheVariants.{Rf, Co, Fr, Int, Ext, Addr, Id}
 use Rattle.std.specs.List.{All}
 use Rattle.std.proofs.lemmas.List.Elements.{All-take}
-use Rattle.events.specs.declared.cut.Cut.{Cut}
+use Rattle.events.specs.declared.view.held.Shown.{Shown}
+use Rattle.events.specs.declared.view.held.Shown.TheVariants.{Whole, CutDown, Opened}
 use Rattle.events.specs.Held.{seen}
 use Rattle.events.specs.Executions.{GraphValue, IsGraph, IsNamed}
 use Rattle.events.specs.Named.{event_names, event_count, IsNumber, InRel, NamedRel, ReadsFrom, ReadsBefore, IsCoherenceBefore}
@@ -98,12 +99,13 @@ turned_named g r t h m = record {
   canonical = m.canonical;
 }
 
--- the row of co behind the write that a read reads from
--- what is known of the sources of an execution names events
-pub seen_named : (o : Option Cut) (g : GraphValue) → IsGraph g → All (IsNamed (seen o g).init (seen o g).runs) (seen o g).rf
-seen_named None g h = h.rf
-seen_named (Some c) g h = All-take (IsNamed g.init g.runs) c.reads g.rf h.rf
+-- what is shown of the sources of an execution names events
+pub seen_named : (shown : Shown) (g : GraphValue) → IsGraph g → All (IsNamed (seen shown g).init (seen shown g).runs) (seen shown g).rf
+seen_named Whole g h = h.rf
+seen_named (CutDown c) g h = All-take (IsNamed g.init g.runs) c.reads g.rf h.rf
+seen_named (Opened c) g h = h.rf
 
+-- the row of co behind the write that a read reads from
 pub fr_named : (g : GraphValue) (s t u : Relation) → All (IsNamed g.init g.runs) g.rf → IsExactly (event_count g) (λ i j. NamedRel g Rf j i) t → IsExactly (event_count g) (NamedRel g Co) s →
     IsExactly t.count (Through t.count (In t) (In s)) u → IsExactly (event_count g) (NamedRel g Fr) u
 unfolding NamedRel

@@ -8,13 +8,13 @@ use Rattle.events.specs.declared.event.Order.{Order}
 use Rattle.events.specs.contracts.event.AccessPartialEq.TheImpl.{ghosts as access_equality}
 use Rattle.events.specs.contracts.event.OrderPartialEq.TheImpl.{ghosts as order_equality}
 
-access_exact : (a b : Access) → Decides (access_equality.eq a b) (a ≡ b)
+pub access_exact : (a b : Access) → Decides (access_equality.eq a b) (a ≡ b)
 access_exact a b = search rules
 
 pub access_told : (a v b : Access) (r : Bool) → r ≡ access_equality.eq a b → a ≡ v → IsTrue r ↔ (v ≡ b)
 access_told a v b r e is = rw (e, is) (access_exact v b)
 
-order_exact : (a b : Order) → Decides (order_equality.eq a b) (a ≡ b)
+pub order_exact : (a b : Order) → Decides (order_equality.eq a b) (a ≡ b)
 order_exact a b = search rules
 
 pub order_told : (a v b : Order) (r : Bool) → r ≡ order_equality.eq a b → a ≡ v → IsTrue r ↔ (v ≡ b)

@@ -1,19 +1,21 @@
--- What a view holds of other executions than its own.
-use Rattle.std.specs.Prelude.{Option, None, Some}
+-- What a view holds of other executions than its own, and how its own is shown.
 use Rattle.events.specs.Cuts.{cut_down}
 use Rattle.events.specs.Executions.{GraphValue}
-use Rattle.events.specs.declared.cut.Cut.{Cut}
+use Rattle.events.specs.Opened.{opened}
 use Rattle.events.specs.declared.view.held.Held.{Held}
 use Rattle.events.specs.declared.view.held.Held.TheVariants.{Own, Lent}
 use Rattle.events.specs.declared.view.held.Placed.{Placed}
 use Rattle.events.specs.declared.view.held.Placed.TheVariants as places
+use Rattle.events.specs.declared.view.held.Shown.{Shown}
+use Rattle.events.specs.declared.view.held.Shown.TheVariants.{Whole, CutDown, Opened}
 use Rattle.relations.specs.Relation.{Relation}
 use Rattle.events.specs.Structures.{Sourced}
 
--- the execution, cut down if it is
-abbrev pub seen : Option Cut → GraphValue → GraphValue
-seen None g = g
-seen (Some c) g = cut_down g c
+-- the execution, as it is shown
+abbrev pub seen : Shown → GraphValue → GraphValue
+seen Whole g = g
+seen (CutDown c) g = cut_down g c
+seen (Opened c) g = opened g c
 
 abbrev pub held_value : Held → Sourced
 held_value (Own b) = b.value

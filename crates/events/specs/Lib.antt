@@ -5,5 +5,6 @@ pub mod Executions
 pub mod Extends
 pub mod Held
 pub mod Named
+pub mod Opened
 pub mod Rows
 pub mod Structures

@@ -1,5 +1,5 @@
 -- How the relations of an execution are worked out.
-use Rattle.std.specs.Prelude.{◌≡◌, ℕ, ◌+◌, ◌<◌, ◌≤◌, List, length, drop, sum_by, slice_index_or}
+use Rattle.std.specs.Prelude.{◌≡◌, ◌≢◌, ◌⊎◌, ℕ, ◌+◌, ◌<◌, ◌≤◌, List, length, drop, sum_by, slice_index_or}
 use Rattle.listings.specs.Lists.{IsIn, StandsAt}
 use Rattle.events.specs.declared.event.EventId.{EventId}
 use Rattle.events.specs.declared.event.EventId.TheVariants.{Initial, Own}
@@ -49,6 +49,14 @@ IsBegun k P i j = P i j × ((m : ℕ) × (m < k) × P m i)
 -- i is the number of one of these events
 abbrev pub IsNumberOfOne : GraphValue → List EventId → ℕ → Type 0
 IsNumberOfOne g es i = (e : EventId) × IsNumber g i e × IsIn e es
+
+-- d is one of these events, and e another, one of those
+abbrev pub AreTwoOf : List EventId → List EventId → EventId → EventId → Type 0
+AreTwoOf ds es d e = IsIn d ds × IsIn e es × (d ≢ e)
+
+-- one of two events is one of these, and the other another, one of those
+abbrev pub AreTwoEitherWay : List EventId → List EventId → EventId → EventId → Type 0
+AreTwoEitherWay ds es d e = AreTwoOf ds es d e ⊎ AreTwoOf es ds d e
 
 -- i is the number of event e, and not one of these numbers
 abbrev pub IsNumberUnless : GraphValue → (ℕ → Type 0) → EventId → ℕ → Type 0

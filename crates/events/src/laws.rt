@@ -3,6 +3,7 @@
 ghost use Rattle.events.specs.Bases.{CountsRestOnRuns, PlainIsLike, SetsRestOnRuns, RelationsRestOnRuns, RelationsRestOnSources};
 ghost use Rattle.events.specs.Extends.{SetsStay, RelationsStay, RelationsGrow, PartsAreGraphs};
 ghost use Rattle.events.specs.Named.{Numbering};
+ghost use Rattle.events.specs.Opened.{RelationsAreWithin, OneSourced, SetsAreDecided, RelationsAreDecided};
 
 /// The events of an execution have the numbers below its count, each one number.
 pub fn numbering()
@@ -25,4 +26,13 @@ pub fn extension()
     ensures stay { RelationsStay }
     ensures grow { RelationsGrow }
     ensures graph { PartsAreGraphs }
+{}
+
+/// An execution has no pair in a relation that what it is within hasn't, and differs from that in its coherence orders alone; and of each event
+/// and of each pair of events it is decided whether it is in the set or in the relation of a name.
+pub fn opening()
+    ensures within { RelationsAreWithin }
+    ensures sourced { OneSourced }
+    ensures sets { SetsAreDecided }
+    ensures relations { RelationsAreDecided }
 {}

@@ -5,6 +5,7 @@ ghost use Rattle.relations.specs.Events.{IsExactlySet};
 ghost use Rattle.relations.specs.Relation.{IsExactly};
 ghost use Rattle.events.specs.Named.{event_count, NamedSet, NamedRel};
 ghost use Rattle.events.specs.Cuts.{cut_down};
+ghost use Rattle.events.specs.Opened.{opened};
 ghost use Rattle.events.specs.Structures.{structure_of, sourced_of};
 ghost use Rattle.events.specs.declared.named.RelName.TheVariants as names;
 
@@ -22,12 +23,13 @@ mod known;
 mod names;
 mod numbered;
 mod numbers;
+mod opened;
 mod rows;
 mod sourced;
 mod structure;
 mod table;
 
-use held::{Held, Placed};
+use held::{Held, Placed, Shown};
 pub use names::event_names;
 use numbered::Numbered;
 pub use sourced::SourcedStructure;
@@ -39,8 +41,8 @@ use table::Pairwise;
 #[derive(Drop)]
 pub struct GraphView<'a> {
     graph: &'a Graph,
-    // To what it is cut down, if it is.
-    cut: Option<Cut<'a>>,
+    // How it is shown.
+    shown: Shown<'a>,
     // What it has in common with the executions that differ in their coherence orders alone.
     held: Held<'a>,
     co: Placed<'a>,
@@ -57,9 +59,9 @@ impl<'a> Model for GraphView<'a> {
 
     ghost Value = { GraphValue };
 
-    ghost view = { λ v. seen v.cut v.graph.now };
+    ghost view = { λ v. seen v.shown v.graph.now };
 
-    ghost invariant = { λ v. let g = seen v.cut v.graph.now in
+    ghost invariant = { λ v. let g = seen v.shown v.graph.now in
         record { held : held_value v.held ≡ sourced_of g; co : IsExactly (event_count g) (NamedRel g names.Co) (placed_value v.co) } };
 }
 
@@ -73,7 +75,7 @@ impl<'a> GraphView<'a> {
         sourced.numbered(graph).coherence_into(&mut co);
         Ok(GraphView {
             graph,
-            cut: None,
+            shown: Shown::Whole,
             held: Held::Own(Box::new(alloc, sourced)?),
             co: Placed::Own(co),
         })
@@ -88,7 +90,7 @@ impl<'a> GraphView<'a> {
         sourced.numbered(graph).coherence_into(room);
         GraphView {
             graph,
-            cut: None,
+            shown: Shown::Whole,
             held: Held::Lent(sourced),
             co: Placed::Lent(room),
         }
@@ -107,7 +109,27 @@ impl<'a> GraphView<'a> {
         sourced.numbered(graph).known_coherence_into(&cut, room);
         GraphView {
             graph,
-            cut: Some(cut),
+            shown: Shown::CutDown(cut),
+            held: Held::Lent(sourced),
+            co: Placed::Lent(room),
+        }
+    }
+
+    /// The same of an execution with the writes open that a cut leaves without a place: its `co` has each pair that there is in some order
+    /// of them. What the cut tells of reads counts for nothing.
+    pub fn over_open(
+        sourced: &'a SourcedStructure,
+        graph: &'a Graph,
+        cut: Cut<'a>,
+        room: &'a mut Rel,
+    ) -> Self
+        requires { sourced.now ≡ sourced_of graph.now }
+        ensures { result ≡ opened graph.entry.now cut.entry }
+    {
+        sourced.numbered(graph).opened_coherence_into(&cut, room);
+        GraphView {
+            graph,
+            shown: Shown::Opened(cut),
             held: Held::Lent(sourced),
             co: Placed::Lent(room),
         }

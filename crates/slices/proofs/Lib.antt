@@ -8,6 +8,7 @@ pub mod Cuts
 pub mod Digits
 pub mod Following
 pub mod Fronts
+pub mod Judging
 pub mod Mapped
 pub mod Members
 pub mod Merging

@@ -1,5 +1,5 @@
 -- Executions that differ in their orders alone, counted by the writes that stand last in these.
-use Rattle.std.proofs.Common.{◌≡◌, ℕ, zero, suc, ◌+◌, ◌-◌, ◌*◌, ◌/◌, ◌%◌, ◌<◌, ◌≤◌, ◌^◌, List, [], ◌∷◌, length, map, Bool, true, false, cond, not, count_by, if◌then◌else◌, Option, Some, refl, sym, ◌∙◌, ap, subst, inl, inr, arith}
+use Rattle.std.proofs.Common.{◌≡◌, ℕ, zero, suc, ◌+◌, ◌*◌, ◌/◌, ◌%◌, ◌<◌, ◌≤◌, ◌^◌, List, [], ◌∷◌, length, map, Bool, true, false, cond, not, count_by, if◌then◌else◌, Some, refl, sym, ◌∙◌, ap, subst, inl, inr, arith}
 use Rattle.std.specs.Prelude.{slice_index_or}
 use Rattle.std.specs.List.{list_any}
 use Rattle.std.specs.Str.{bytes_eq}
@@ -9,9 +9,7 @@ use Rattle.std.proofs.lemmas.Slice.Eq.{bytes_eq-Decides}
 use Rattle.events.specs.declared.event.EventId.{EventId}
 use Rattle.events.specs.declared.event.EventId.TheVariants.{Initial}
 use Rattle.events.specs.Executions.{ThreadRun, GraphValue}
-use Rattle.events.specs.Structures.{sourced_of}
-use Rattle.cat_eval.specs.Judging.{Allowed, Raised}
-use Rattle.cat_eval.specs.Orderless.{IsOrderless}
+use Rattle.cat_eval.specs.Judging.{Allowed, JudgementValue, Raised}
 use Rattle.cat_tree.specs.Tree.{Clause}
 use Rattle.listings.specs.Lists.{IsIn, Lists, product_by, tabulate}
 use Rattle.listings.specs.Numbered.{arrange, digits}
@@ -28,7 +26,7 @@ use Rattle.slices.specs.declared.slot.Slot.TheVariants.{Register, Location}
 use Rattle.slices.specs.Alike.{AreFew, followed, of_ways, weight_at}
 use Rattle.slices.specs.Finals.{has, last_or, obs}
 use Rattle.slices.specs.Findings.{FindingValue}
-use Rattle.slices.specs.Passing.{NoneAllowed}
+use Rattle.slices.specs.Judgements.{AllJudged, IsJudged}
 use Rattle.slices.specs.Slots.{slot_by, slot_of, slot_value}
 use Rattle.slices.specs.Sums.{IsSum, state_has}
 use Rattle.slices.specs.Totals.{total}
@@ -36,7 +34,8 @@ use Rattle.slices.specs.Ways.{WaysValue, count_of_ways, is_location, is_seen, sh
 use Rattle.slices.proofs.Counted.{row_is, turned}
 use Rattle.slices.proofs.Digits.{AllSpread, all_spread, by_digits}
 use Rattle.slices.proofs.Following.{AreJudgedAlike, AreSaid, GoesOn, count_followed, from_followed, goes_on, in_followed}
-use Rattle.slices.proofs.PassedOver.{counts_pass}
+use Rattle.slices.proofs.Judging.{raised, shown_is}
+use Rattle.slices.proofs.PassedOver.{counts_pass, not_allowed}
 use Rattle.slices.proofs.Opened.{AreSound, Fits, last_by, opened_digits, opened_size, opened_sound, opened_spread, opened_values, opened_ways, ways_of_orders}
 use Rattle.slices.proofs.Picked.{few_picks, one_total, some_total, weights_add, weights_some}
 use Rattle.slices.proofs.Shown.{from_on, order_by, shown_opened}
@@ -245,16 +244,6 @@ said t items v slots init runs rf o times j flags e h alike raised formula =
       );
     }
 
-some_is : (x y : GraphValue) → ◌≡◌ {A = Option GraphValue} (Some x) (Some y) → x ≡ y
-some_is x y e = cc
-
-shown_is : (s : Choices) (a : ℕ) (o : OpenOrders) (x : GraphValue) → (h : AreAlike s a o) → graph_at s a ≡ Some x → x ≡ with_orders s.init h.runs h.rf (o.size * h.times + 0)
-shown_is s a o x h at =
-    let e : a + 0 ≡ a = omega arith in
-    let y : GraphValue = with_orders s.init h.runs h.rf (o.size * h.times + 0) in
-    let l = h.opens.some in
-    some_is x y (sym at ∙ ap (graph_at s) (sym e) ∙ h.at 0 (omega (arith, l)))
-
 ways_are : (slots : List Slot) (s : Choices) (a : ℕ) (o : OpenOrders) (x : GraphValue) → (h : AreAlike s a o) → graph_at s a ≡ Some x →
     ways_shown slots o x ≡ ways_in slots (length s.init) h.runs o h.times
 ways_are slots s a o x h at =
@@ -280,31 +269,27 @@ are_few slots s a o x ways h at is few =
     let P : List WaysValue → Type 0 = λ w. AreFew w × (product_by size_of_ways w ≡ o.size) in
     subst P (sym (is ∙ ways_are slots s a o x h at)) (record { most = few_picks ws vs (sound_in slots n h.runs o h.times) spread; all = weights_add ws vs spread; few = omega (arith, p, few) }, p)
 
--- A count goes on over a block whose first execution is allowed.
-pub block_counted : (t : Litmus) (items : List Clause) (slots : List Slot) (s : Choices) (a : ℕ) (o : OpenOrders) (x : GraphValue) (flags : List Word) (before after : FindingValue) → IsOrderless items → Allowed items x → slots ≡ map (slot_of t) before.places → AreAlike s a o →
-    graph_at s a ≡ Some x → Lists (Raised items x) flags → IsSum before (of_ways before x slots (ways_shown slots o x) flags) after → GoesOn t items s a (a + o.size) before after
-block_counted t items slots s a o x flags before after orderless allowed e h at raised is =
+-- what is said of each of them
+said_of : (items : List Clause) (s : Choices) (a : ℕ) (o : OpenOrders) (j : JudgementValue) → (h : AreAlike s a o) → AllJudged items s a (a + o.size) j → (i : ℕ) → i < o.size → IsJudged items j (with_orders s.init h.runs h.rf (o.size * h.times + i))
+said_of items s a o j h judged i l = judged (a + i) (omega arith) (omega (arith, l)) (with_orders s.init h.runs h.rf (o.size * h.times + i)) (h.at i l)
+
+-- A count goes on over a block whose executions are allowed.
+pub block_counted : (t : Litmus) (items : List Clause) (slots : List Slot) (s : Choices) (a : ℕ) (o : OpenOrders) (x : GraphValue) (j : JudgementValue) (before after : FindingValue) → AllJudged items s a (a + o.size) j → j.allowed ≡ true → slots ≡ map (slot_of t) before.places → AreAlike s a o →
+    graph_at s a ≡ Some x → IsSum before (of_ways before x slots (ways_shown slots o x) j.flags) after → GoesOn t items s a (a + o.size) before after
+block_counted t items slots s a o x j before after judged holds e h at is =
     let f : ℕ → GraphValue = λ i. with_orders s.init h.runs h.rf (o.size * h.times + i) in
     let ws : List WaysValue = ways_in slots (length s.init) h.runs o h.times in
     let first : x ≡ f 0 = shown_is s a o x h at in
-    let same : (i : ℕ) → sourced_of (f i) ≡ sourced_of x = λ i. sym (ap sourced_of first) in
-    let alike : AreJudgedAlike items f o.size = λ i l. ((orderless (f i) x (same i)).0.1 allowed, λ name r. ((orderless (f i) (f 0) refl).1 name).0 r) in
-    let W : List WaysValue → Type 0 = λ w. IsSum before (of_ways before x slots w flags) after in
-    let G : GraphValue → Type 0 = λ y. IsSum before (of_ways before y slots ws flags) after in
-    let R : GraphValue → Type 0 = λ y. Lists (Raised items y) flags in
-    goes_on t items s a o.size f before (of_ways before (f 0) slots ws flags) after alike h.at
-    (said t items before slots s.init h.runs h.rf o h.times (o.size * h.times + 0) flags e h.opens alike (subst R first raised)) (subst G first (subst W (ways_are slots s a o x h at) is))
+    let each : (i : ℕ) → i < o.size → IsJudged items j (f i) = said_of items s a o j h judged in
+    let some = h.opens.some in
+    let shown : IsJudged items j (f 0) = each 0 (omega (arith, some)) in
+    let alike : AreJudgedAlike items f o.size = λ i l. (let told = each i l in let allowed = told.allowed.0 holds in (allowed, λ name r. (shown.flags.only name (told.flags.all name (allowed, r))).1)) in
+    let W : List WaysValue → Type 0 = λ w. IsSum before (of_ways before x slots w j.flags) after in
+    let G : GraphValue → Type 0 = λ y. IsSum before (of_ways before y slots ws j.flags) after in
+    goes_on t items s a o.size f before (of_ways before (f 0) slots ws j.flags) after alike h.at
+    (said t items before slots s.init h.runs h.rf o h.times (o.size * h.times + 0) j.flags e h.opens alike (raised items (f 0) j shown holds)) (subst G first (subst W (ways_are slots s a o x h at) is))
 
--- It stays over a block whose first execution isn't.
-pub block_forbidden : (t : Litmus) (items : List Clause) (s : Choices) (a : ℕ) (o : OpenOrders) (x : GraphValue) (v : FindingValue) → IsOrderless items → ¬ Allowed items x → AreAlike s a o → graph_at s a ≡ Some x → GoesOn t items s a (a + o.size) v v
-block_forbidden t items s a o x v orderless forbidden h at from l c =
-    let f : ℕ → GraphValue = λ i. with_orders s.init h.runs h.rf (o.size * h.times + i) in
-    let first : x ≡ f 0 = shown_is s a o x h at in
-    let same : (i : ℕ) → sourced_of (f i) ≡ sourced_of x = λ i. sym (ap sourced_of first) in
-    let none : NoneAllowed items s a (a + o.size) = (λ m low up y is allowed.
-    let i : ℕ = m - a in
-    let there : a + i ≡ m = omega (arith, low) in
-    let here : y ≡ f i = some_is y (f i) (sym is ∙ ap (graph_at s) (sym there) ∙ h.at i (omega (arith, low, up))) in
-    let A : GraphValue → Type 0 = Allowed items in
-    forbidden ((orderless (f i) x (same i)).0.0 (subst A here allowed))) in
-    counts_pass t items s v from a (a + o.size) l (omega arith) none c
+-- It stays over a block whose executions aren't.
+pub block_forbidden : (t : Litmus) (items : List Clause) (s : Choices) (a b : ℕ) (j : JudgementValue) (v : FindingValue) → a ≤ b → AllJudged items s a b j → j.allowed ≡ false → GoesOn t items s a b v v
+block_forbidden t items s a b j v order judged forbidden from l c =
+    counts_pass t items s v from a b l order (λ m low up x at allowed. not_allowed j.allowed (Allowed items x) forbidden (judged m low up x at).allowed allowed) c

@@ -1,5 +1,5 @@
 -- What is passed over adds nothing to a count.
-use Rattle.std.proofs.Common.{◌≡◌, ℕ, zero, suc, ◌+◌, ◌-◌, ◌<◌, ◌≤◌, List, [], ◌++◌, Option, Some, None, refl, sym, ◌∙◌, subst, append-nil, arith}
+use Rattle.std.proofs.Common.{◌≡◌, ℕ, zero, suc, ◌+◌, ◌-◌, ◌<◌, ◌≤◌, List, [], ◌++◌, Option, Some, None, refl, sym, ◌∙◌, ap, subst, append-nil, arith}
 use Rattle.std.specs.Prelude.{max, min, Bool, true, false, IfSome, MatchBool, MatchOption, ◌↔◌}
 use Rattle.events.specs.declared.cut.Cut.{Cut}
 use Rattle.events.specs.Cuts.{cut_down}
@@ -76,6 +76,13 @@ hit_number v w None n e h = absurd (let f : None ≡ Some n = e in cc)
 pub miss_number : (v w : Walking) (o : Option ℕ) → ((n : ℕ) → o ≡ Some n → ⊥) → MatchOption o (IsMiss v w) (IsHit v w) → IsMiss v w
 miss_number v w None none h = h
 miss_number v w (Some m) none h = absurd (none m refl)
+
+-- what the walk shows stands at the number before the one where it goes on
+pub shown_at : (u v : Walking) (n : ℕ) → IsHit u v n → graph_at v.space (v.next - 1) ≡ Some v.shown
+shown_at u v n hit =
+    let next = hit.step.next in
+    let here : v.next - 1 ≡ n = omega (arith, next) in
+    ap (graph_at v.space) here ∙ (ap (λ s. graph_at s n) hit.step.space ∙ hit.at)
 
 -- a walk that goes on behind what it found has less before it
 pub walk_nearer : (n : ℕ) (v w : Walking) → w.to ≡ v.to → n < w.next → v.next ≤ n → n < v.to → w.to - w.next < v.to - v.next

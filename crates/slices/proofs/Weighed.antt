@@ -1,9 +1,8 @@
 -- What a walk finds is counted: one execution, or some that differ in their orders alone.
-use Rattle.std.proofs.Common.{◌≡◌, ℕ, ◌+◌, ◌-◌, ◌<◌, ◌≤◌, ◌^◌, ◌⊎◌, List, [], ◌∷◌, ◌++◌, length, map, Bool, true, false, cond, not, count_by, IsTrue, refl, sym, ◌∙◌, ap, subst, inl, inr, arith}
-use Rattle.std.specs.Prelude.{max, min, Some, MatchBool, ◌↔◌}
+use Rattle.std.proofs.Common.{◌≡◌, ℕ, ◌+◌, ◌-◌, ◌<◌, ◌≤◌, ◌^◌, ◌⊎◌, List, [], ◌∷◌, ◌++◌, length, map, Bool, true, false, cond, not, count_by, refl, sym, ◌∙◌, ap, subst, inl, inr, arith}
+use Rattle.std.specs.Prelude.{max, min, Some, MatchBool}
 use Rattle.std.proofs.lemmas.List.{length-map}
-use Rattle.cat_eval.specs.Judging.{Allowed, Raised}
-use Rattle.cat_eval.specs.Orderless.{IsOrderless}
+use Rattle.cat_eval.specs.Judging.{Allowed, JudgementValue, Raised}
 use Rattle.cat_tree.specs.Tree.{Clause}
 use Rattle.conditions.specs.States.{bindings, holds_in}
 use Rattle.conditions.specs.declared.place.Place.{Place}
@@ -19,6 +18,7 @@ use Rattle.slices.specs.declared.slot.Slot.{Slot}
 use Rattle.slices.specs.Alike.{AreFew, of_ways, row_by}
 use Rattle.slices.specs.Finals.{has, obs}
 use Rattle.slices.specs.Findings.{FindingValue}
+use Rattle.slices.specs.Judgements.{AllJudged, AreJudged, IsJudged}
 use Rattle.slices.specs.Parts.{IsAdmitted, IsRange}
 use Rattle.slices.specs.Slots.{slot_of, slot_value}
 use Rattle.slices.specs.Sums.{IsSum, of_flags, of_state, state_has}
@@ -26,25 +26,16 @@ use Rattle.slices.specs.Ways.{WaysValue, size_of_ways, ways_shown}
 use Rattle.slices.proofs.Adding.{states_all}
 use Rattle.slices.proofs.Counted.{IsCountOf, IsUnderWay, row_is, those-pass, those-push, turned}
 use Rattle.slices.proofs.Following.{GoesOn}
+use Rattle.slices.proofs.Judging.{raised}
 use Rattle.slices.proofs.Members.{count-cons}
 use Rattle.slices.proofs.Orders.{are_few, block_counted, block_forbidden}
-use Rattle.slices.proofs.PassedOver.{counts_pass, none_stands}
+use Rattle.slices.proofs.PassedOver.{counts_pass, none_stands, not_allowed}
 use Rattle.slices.proofs.Told.{Says, both_behind, sum_flags, sum_told}
 
--- what is said of an execution
-
--- whether it is allowed, and if it is, which names it raises
-pub record IsJudged (items : List Clause) (x : GraphValue) (b : Bool) (names : List Word) : Type 0 where
-  pub allowed : IsTrue b ↔ Allowed items x
-  pub flags : Lists (λ name. Allowed items x × Raised items x name) names
-
-raised : (items : List Clause) (x : GraphValue) (allowed : Bool) (flags : List Word) → IsJudged items x allowed flags → Allowed items x → Lists (Raised items x) flags
-raised items x allowed flags h a = record { once = h.flags.once; only = λ name p. (h.flags.only name p).1; all = λ name r. h.flags.all name (a, r) }
-
 -- what is found is changed if it is allowed, and the same if it isn't
-choice : (P : Type 0) (items : List Clause) (x : GraphValue) (b : Bool) (flags : List Word) (old new : FindingValue) → IsJudged items x b flags → MatchBool b P (new ≡ old) → (Allowed items x × P) ⊎ ((¬ Allowed items x) × (new ≡ old))
-choice P items x true flags old new h m = inl (h.allowed.0 refl, m)
-choice P items x false flags old new h m = inr ((λ a. let e : false ≡ true = h.allowed.1 a in cc), m)
+choice : (P Q : Type 0) (b : Bool) → MatchBool b P Q → ((b ≡ true) × P) ⊎ ((b ≡ false) × Q)
+choice P Q true m = inl (refl, m)
+choice P Q false m = inr (refl, m)
 
 pub if_yes : (b : Bool) (P Q : Type 0) → b ≡ true → P → MatchBool b P Q
 if_yes true P Q e p = p
@@ -99,9 +90,9 @@ few_more : (b : Bool) (p n p' n' k : ℕ) → p + n ≤ k → p' ≡ p + cond b 
 few_more true p n p' n' k h e f = omega arith
 few_more false p n p' n' k h e f = omega arith
 
-pub walked_one : (t : Litmus) (items : List Clause) (from to n : ℕ) (u w : Walking) (x : GraphValue) (slots : List Slot) (b : Bool) (flags : List Word) (old new : FindingValue) → IsUnderWay t items from to u old → IsHit u w n → x ≡ w.shown → slots ≡ map (slot_of t) old.places → IsJudged items x b flags
-    → MatchBool b (IsSum old (of_state old (map (slot_value x) slots) 1 flags) new) (new ≡ old) → IsUnderWay t items from to w new
-walked_one t items from to n u w x slots b flags old new h hit shown e judged m =
+pub walked_one : (t : Litmus) (items : List Clause) (from to n : ℕ) (u w : Walking) (x : GraphValue) (slots : List Slot) (j : JudgementValue) (old new : FindingValue) → IsUnderWay t items from to u old → IsHit u w n → x ≡ w.shown → slots ≡ map (slot_of t) old.places → IsJudged items j x
+    → MatchBool j.allowed (IsSum old (of_state old (map (slot_value x) slots) 1 j.flags) new) (new ≡ old) → IsUnderWay t items from to w new
+walked_one t items from to n u w x slots j old new h hit shown e judged m =
     let xs : List GraphValue = found_from u.space from u.next in
     let C : List GraphValue → Type 0 = λ all. IsCountOf t items all new in
     let X : GraphValue → Type 0 = λ y. IsCountOf t items (xs ++ y ∷ []) new in
@@ -110,12 +101,12 @@ walked_one t items from to n u w x slots b flags old new h hit shown e judged m 
     let N : FindingValue → Type 0 = λ v. IsCountOf t items (xs ++ x ∷ []) v in
     let F : FindingValue → Type 0 = λ v. v.positive + v.negative ≤ u.next + 1 in
     let c = h.counted in
-    let both : IsCountOf t items (xs ++ x ∷ []) new × (new.positive + new.negative ≤ u.next + 1) = elim (choice (IsSum old (of_state old row 1 flags) new) items x b flags old new judged m) [
+    let both : IsCountOf t items (xs ++ x ∷ []) new × (new.positive + new.negative ≤ u.next + 1) = elim (choice (IsSum old (of_state old row 1 j.flags) new) (new ≡ old) j.allowed m) [
       | inl a ↦ (
-        (c.0 ++ x ∷ [], those-push x a.0 c.1, sum_told t items c.0 (x ∷ []) (c.0 ++ x ∷ []) old (of_state old row 1 flags) new c.2 (one_said t items x old row flags c.2.formula is (raised items x b flags judged a.0)) a.1 (both_behind c.0 (x ∷ []))),
+        (c.0 ++ x ∷ [], those-push x (judged.allowed.0 a.0) c.1, sum_told t items c.0 (x ∷ []) (c.0 ++ x ∷ []) old (of_state old row 1 j.flags) new c.2 (one_said t items x old row j.flags c.2.formula is (raised items x j judged a.0)) a.1 (both_behind c.0 (x ∷ []))),
         few_more (state_has old row) old.positive old.negative new.positive new.negative u.next h.few a.1.positive a.1.negative,
       )
-      | inr a ↦ (subst N (sym a.1) (c.0, those-pass x a.0 c.1, c.2), subst F (sym a.1) (let f = h.few in omega (arith, f)))
+      | inr a ↦ (subst N (sym a.1) (c.0, those-pass x (not_allowed j.allowed (Allowed items x) a.0 judged.allowed) c.1, c.2), subst F (sym a.1) (let f = h.few in omega (arith, f)))
     ] in
     let few = both.1 in
     record {
@@ -140,9 +131,9 @@ few_ways t items from to n u v slots o x f h hit alike at shown within =
     let later = hit.later in
     (few.0, omega (arith, size, most, later, end, least))
 
-pub walked_alike : (t : Litmus) (items : List Clause) (from to n : ℕ) (u v w : Walking) (x : GraphValue) (slots : List Slot) (o : OpenOrders) (b : Bool) (flags : List Word) (old new : FindingValue) → IsUnderWay t items from to u old → IsHit u v n → x ≡ v.shown → IsOrderless items → slots ≡ map (slot_of t) old.places → AreAlike v.space n o → graph_at v.space n ≡ Some v.shown
-    → IsJudged items x b flags → (n + o.size ≤ v.to) × (v.to ≤ 2 ^ 32) → MatchBool b (IsSum old (of_ways old x slots (ways_shown slots o x) flags) new) (new ≡ old) → w.space ≡ v.space → w.to ≡ v.to → w.next ≡ max v.next (min (n + o.size) v.to) → IsUnderWay t items from to w new
-walked_alike t items from to n u v w x slots o b flags old new h hit shown orderless e alike here judged within m space ends next =
+pub walked_alike : (t : Litmus) (items : List Clause) (from to n : ℕ) (u v w : Walking) (x : GraphValue) (slots : List Slot) (o : OpenOrders) (j : JudgementValue) (old new : FindingValue) → IsUnderWay t items from to u old → IsHit u v n → x ≡ v.shown → slots ≡ map (slot_of t) old.places → AreAlike v.space n o → graph_at v.space n ≡ Some v.shown
+    → AllJudged items v.space n (n + o.size) j → (n + o.size ≤ v.to) × (v.to ≤ 2 ^ 32) → MatchBool j.allowed (IsSum old (of_ways old x slots (ways_shown slots o x) j.flags) new) (new ≡ old) → w.space ≡ v.space → w.to ≡ v.to → w.next ≡ max v.next (min (n + o.size) v.to) → IsUnderWay t items from to w new
+walked_alike t items from to n u v w x slots o j old new h hit shown e alike here judged within m space ends next =
     let s : Choices = v.space in
     let at : graph_at s n ≡ Some x = here ∙ ap (λ (y : GraphValue). Some y) (sym shown) in
     let some = alike.opens.some in
@@ -153,12 +144,12 @@ walked_alike t items from to n u v w x slots o b flags old new h hit shown order
     let G : FindingValue → Type 0 = λ f. GoesOn t items s n (n + o.size) old f in
     let F : FindingValue → Type 0 = λ f. f.positive + f.negative ≤ old.positive + old.negative + o.size in
     let few = are_few slots s n o x (ways_shown slots o x) alike at refl (omega (arith, end, least)) in
-    let both : GoesOn t items s n (n + o.size) old new × (new.positive + new.negative ≤ old.positive + old.negative + o.size) = elim (choice (IsSum old (of_ways old x slots (ways_shown slots o x) flags) new) items x b flags old new judged m) [
+    let both : GoesOn t items s n (n + o.size) old new × (new.positive + new.negative ≤ old.positive + old.negative + o.size) = elim (choice (IsSum old (of_ways old x slots (ways_shown slots o x) j.flags) new) (new ≡ old) j.allowed m) [
       | inl a ↦ (
-        block_counted t items slots s n o x flags old new orderless a.0 e alike at (raised items x b flags judged a.0) a.1,
-        (let all = states_all old new (row_by x slots (ways_shown slots o x)) (ways_shown slots o x) flags few.0 a.1 in let size = few.1 in omega (arith, all, size)),
+        block_counted t items slots s n o x j old new judged a.0 e alike at a.1,
+        (let all = states_all old new (row_by x slots (ways_shown slots o x)) (ways_shown slots o x) j.flags few.0 a.1 in let size = few.1 in omega (arith, all, size)),
       )
-      | inr a ↦ (subst G (sym a.1) (block_forbidden t items s n o x old orderless a.0 alike at), subst F (sym a.1) (omega arith))
+      | inr a ↦ (subst G (sym a.1) (block_forbidden t items s n (n + o.size) j old (omega arith) judged a.0), subst F (sym a.1) (omega arith))
     ] in
     let sum = both.1 in
     let order = h.order in
@@ -176,20 +167,26 @@ walked_alike t items from to n u v w x slots o b flags old new h hit shown order
       to_is = ends ∙ hit.step.to ∙ h.to_is;
     }
 
--- what is known of the orders behind the execution that a walk found last
-pub alike_at : (u v : Walking) (n : ℕ) (o : OpenOrders) → IsHit u v n → ((x : GraphValue) → graph_at v.space (v.next - 1) ≡ Some x → AreAlike v.space (v.next - 1) o) → AreAlike v.space n o × (graph_at v.space n ≡ Some v.shown)
-alike_at u v n o hit alike =
+-- what is said of the executions behind the one that a walk found last, by its number
+pub record AreSaidAt (items : List Clause) (v : Walking) (n : ℕ) (j : JudgementValue) (o : OpenOrders) : Type 0 where
+  pub alike : AreAlike v.space n o
+  pub judged : AllJudged items v.space n (n + o.size) j
+  pub at : graph_at v.space n ≡ Some v.shown
+  pub within : (n + o.size ≤ v.to) × (v.to ≤ 2 ^ 32)
+
+pub said_at : (t : Litmus) (items : List Clause) (from to n : ℕ) (u v : Walking) (j : JudgementValue) (o : OpenOrders) (f : FindingValue) → IsUnderWay t items from to u f → IsHit u v n → IsRange t from to → IsAdmitted t → AreJudged items v j o → AreSaidAt items v n j o
+said_at t items from to n u v j o f h hit range admitted said =
     let next = hit.step.next in
     let here : v.next - 1 ≡ n = omega (arith, next) in
-    let at : graph_at v.space n ≡ Some v.shown = ap (λ s. graph_at s n) hit.step.space ∙ hit.at in
     let N : ℕ → Type 0 = λ m. AreAlike v.space m o in
-    (subst N here (alike v.shown (ap (graph_at v.space) here ∙ at)), at)
-
--- and how far they go
-pub alike_within : (t : Litmus) (items : List Clause) (from to n size : ℕ) (u v : Walking) (f : FindingValue) → IsUnderWay t items from to u f → IsHit u v n → IsRange t from to → IsAdmitted t → v.next - 1 + size ≤ v.to → (n + size ≤ v.to) × (v.to ≤ 2 ^ 32)
-alike_within t items from to n size u v f h hit range admitted l =
-    let next = hit.step.next in
+    let J : ℕ → Type 0 = λ m. AllJudged items v.space m (m + o.size) j in
     let to_is = hit.step.to ∙ h.to_is in
     let most = range.within in
     let few = admitted.few in
-    (omega (arith, l, next), omega (arith, to_is, most, few))
+    let l = said.within in
+    record {
+      alike = subst N here said.alike;
+      judged = subst J here said.judged;
+      at = ap (λ s. graph_at s n) hit.step.space ∙ hit.at;
+      within = (omega (arith, l, next), omega (arith, to_is, most, few));
+    }

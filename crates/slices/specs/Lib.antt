@@ -4,6 +4,7 @@ pub mod Courses
 pub mod Finals
 pub mod Findings
 pub mod Fronts
+pub mod Judgements
 pub mod Misplaced
 pub mod Parts
 pub mod Passing

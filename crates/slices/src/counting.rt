@@ -9,8 +9,8 @@ ghost use Rattle.slices.specs.Slots.{slot_value};
 ghost use Rattle.slices.specs.Steady.{AreSteady};
 ghost use Rattle.slices.specs.Sums.{IsSum, of_state};
 
-use crate::alike::alike_behind;
 use crate::finding::Finding;
+use crate::judged::{Judged, judge};
 use crate::pruning::Pruner;
 use crate::slot::{Slot, row};
 use crate::work::WorkRef;
@@ -69,10 +69,9 @@ pub fn count(
         if pruner.passes(alloc, evaluator, walk, number)? {
             continue;
         }
+        let Judged { judgement, open } = judge(alloc, inner, walk, evaluator, pruner)?;
         let graph = walk.graph();
-        let judgement = evaluator.judge_next(alloc, graph)?;
-        pruner.learn(alloc, evaluator, graph, &judgement)?;
-        if let Some(range) = alike_behind(inner, walk) {
+        if let Some(range) = open {
             finding.weigh_alike(alloc, slots, graph, range, &judgement)?;
             walk.pass(number + range.size());
             continue;

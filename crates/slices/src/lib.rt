@@ -7,6 +7,7 @@ mod course;
 mod equality;
 mod finding;
 mod front;
+mod judged;
 mod kept_space;
 pub mod laws;
 mod misplaced;

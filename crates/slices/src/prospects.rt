@@ -1,4 +1,5 @@
-//! Which blocks of executions are worth asking. No contract rests on it: what is told here shows in speed alone.
+//! Which blocks of executions are worth asking, whether they are forbidden as a whole or allowed. No contract rests on it: what is told here shows
+//! in speed alone.
 
 ghost use Rattle.std.specs.Prelude.{◌≤◌};
 ghost use Rattle.slices.specs.declared.prospects.TheConstants.{MOST_DEPTHS};
@@ -13,11 +14,40 @@ const JUDGEMENT: u64 = 64;
 /// What it costs to ask a block: to show what its executions have in common, and to judge that.
 const QUESTION: u64 = 96;
 
+/// What a block must cost to be worth asking whether it is allowed: where it is, it is counted by the writes that stand last, which costs as well.
+const LEAST: u64 = 3 * QUESTION;
+
 /// What a depth saves at most: so much is spent on asking where it gains no more.
 const MOST_SAVINGS: u64 = 16 * JUDGEMENT;
 
 /// What is spent before a block is looked at.
 const FIRST: u64 = 16 * JUDGEMENT;
+
+/// What may be spent on asking.
+#[derive(Clone, Copy)]
+struct Savings(u64);
+
+impl Savings {
+    /// Not enough for the first question: a block that to ask might have spared lets the next be asked.
+    fn new() -> Self {
+        Savings(QUESTION - 1)
+    }
+
+    /// Adds to them.
+    fn save(&mut self, parts: u64) {
+        self.0 = self.0.saturating_add(parts).min(MOST_SAVINGS);
+    }
+
+    /// Whether there is enough for a question.
+    fn suffice(self) -> bool {
+        self.0 >= QUESTION
+    }
+
+    /// Pays for a question.
+    fn pay(&mut self) {
+        self.0 = self.0.saturating_sub(QUESTION);
+    }
+}
 
 /// The blocks of one depth.
 #[derive(Clone, Copy)]
@@ -28,31 +58,32 @@ struct Depth {
     entered: u64,
     /// What a block costs that isn't passed over, by those so far; nothing where there was none.
     worth: u64,
-    /// What may be spent on asking.
-    savings: u64,
+    /// For asking whether a block is forbidden.
+    refuting: Savings,
+    /// For asking whether it is allowed.
+    opening: Savings,
 }
 
 impl Depth {
-    /// No block yet. The first that has no allowed execution lets the next be asked.
+    /// No block yet.
     fn new() -> Self {
         Depth {
             end: 0,
             entered: 0,
             worth: 0,
-            savings: QUESTION - 1,
+            refuting: Savings::new(),
+            opening: Savings::new(),
         }
     }
 
-    /// Adds to what may be spent.
-    fn save(&mut self, parts: u64) {
-        self.savings = self.savings.saturating_add(parts).min(MOST_SAVINGS);
-    }
-
-    /// Leaves the block at hand. If it was forbidden as a whole, to ask it might have spared what it cost.
-    fn leave(&mut self, spent: u64, forbidden: bool) {
+    /// Leaves the block at hand. If it was forbidden as a whole, or allowed, to ask that might have spared what it cost.
+    fn leave(&mut self, spent: u64, forbidden: bool, allowed: bool) {
         let cost = spent.saturating_sub(self.entered);
         if forbidden && cost > JUDGEMENT {
-            self.save(cost / JUDGEMENT);
+            self.refuting.save(cost / JUDGEMENT);
+        }
+        if allowed && cost > JUDGEMENT {
+            self.opening.save(cost / JUDGEMENT);
         }
         self.worth = if self.worth == 0 {
             cost
@@ -61,13 +92,9 @@ impl Depth {
         };
     }
 
-    /// Pays for asking, where there are savings and blocks cost more than that.
-    fn pay(&mut self) -> bool {
-        if self.worth <= QUESTION || self.savings < QUESTION {
-            return false;
-        }
-        self.savings -= QUESTION;
-        true
+    /// Whether a block is worth asking whether it is allowed.
+    fn may_open(&self) -> bool {
+        self.worth > LEAST && self.opening.suffice()
     }
 }
 
@@ -82,6 +109,10 @@ pub(crate) struct Prospects {
     spent: u64,
     /// What had been spent when an execution was allowed last.
     allowed: u64,
+    /// What had been spent when one was forbidden last.
+    forbidden: u64,
+    /// The first depth whose block was entered at the number at hand and is worth asking whether it is allowed; if there is none, one behind all.
+    opens: usize,
     ghost few: { entered ≤ MOST_DEPTHS },
 }
 
@@ -94,6 +125,8 @@ impl Drop for Prospects {
             number: _,
             spent: _,
             allowed: _,
+            forbidden: _,
+            opens: _,
         } = self;
     }
 }
@@ -107,6 +140,8 @@ impl Prospects {
             number: 0,
             spent: 0,
             allowed: 0,
+            forbidden: 0,
+            opens: MOST_DEPTHS,
         }
     }
 
@@ -128,7 +163,15 @@ impl Prospects {
         self.spend(JUDGEMENT);
         if allowed {
             self.allowed = self.spent;
+        } else {
+            self.forbidden = self.spent;
         }
+    }
+
+    /// Notes that executions were passed over, at next to no cost.
+    pub(crate) fn forbid(&mut self) {
+        self.spend(1);
+        self.forbidden = self.spent;
     }
 
     fn spend(&mut self, parts: u64) {
@@ -144,9 +187,11 @@ impl Prospects {
                 break;
             }
             let forbidden = self.allowed <= depth.entered;
-            depth.leave(self.spent, forbidden);
+            let allowed = self.forbidden <= depth.entered;
+            depth.leave(self.spent, forbidden, allowed);
             self.entered -= 1;
         }
+        self.opens = MOST_DEPTHS;
         self.entered
     }
 
@@ -156,14 +201,20 @@ impl Prospects {
             block.end = end;
             block.entered = self.spent;
             self.entered = depth + 1;
+            if block.may_open() {
+                self.opens = self.opens.min(depth);
+            }
         }
     }
 
-    /// Whether the block of a depth is worth asking. If so, it is paid for.
+    /// Whether the block of a depth is worth asking whether it is forbidden. If so, it is paid for.
     pub(crate) fn pay(&mut self, depth: usize) -> bool {
         let paid = match self.depths.get_mut(depth) {
-            Some(block) => block.pay(),
-            None => false,
+            Some(block) if block.worth > QUESTION && block.refuting.suffice() => {
+                block.refuting.pay();
+                true
+            }
+            _ => false,
         };
         if paid {
             self.spend(QUESTION);
@@ -174,8 +225,38 @@ impl Prospects {
     /// Notes that the block of a depth was passed over.
     pub(crate) fn earn(&mut self, depth: usize) {
         if let Some(block) = self.depths.get_mut(depth) {
-            let worth = block.worth;
-            block.save(worth);
+            block.refuting.save(block.worth);
         }
+        self.forbidden = self.spent;
+    }
+
+    /// From which depth on the blocks that were entered at the number at hand may be worth asking whether they are allowed.
+    pub(crate) fn opens(&self) -> usize {
+        self.opens
+    }
+
+    /// Whether the block of a depth is worth asking whether it is allowed.
+    pub(crate) fn may_open(&self, depth: usize) -> bool {
+        match self.depths.get(depth) {
+            Some(block) => block.may_open(),
+            None => false,
+        }
+    }
+
+    /// Pays for asking that.
+    pub(crate) fn pay_open(&mut self, depth: usize) {
+        if let Some(block) = self.depths.get_mut(depth) {
+            block.opening.pay();
+        }
+        self.spend(QUESTION);
+    }
+
+    /// Notes that the block of a depth was allowed as a whole, so that it isn't gone through.
+    pub(crate) fn earn_open(&mut self, depth: usize) {
+        if let Some(block) = self.depths.get_mut(depth) {
+            block.opening.save(block.worth);
+            self.entered = self.entered.min(depth);
+        }
+        self.allowed = self.spent;
     }
 }

@@ -1,12 +1,14 @@
-//! What a model is known to forbid together, so that it needn't be judged one by one.
+//! What a model is known to forbid together, or to allow, so that it needn't be judged one by one.
 
 ghost use Rattle.std.specs.Prelude.{◌≡◌, ◌+◌, List, MatchBool, Some, IfOk, IfSome, IsTrue};
 ghost use Rattle.candidates.specs.Candidates.{Choices, graph_at};
 ghost use Rattle.cat_tree.specs.Tree.{Clause};
 ghost use Rattle.events.specs.Structures.{structure_of};
+ghost use Rattle.slices.specs.Judgements.{IsSaid};
 ghost use Rattle.slices.specs.Misplaced.{AreLearned};
 ghost use Rattle.slices.specs.Passing.{ArePassed, HasGoneOver, IsForbidden, Knows, NoneAllowed};
 
+use crate::judged::Judged;
 use crate::misplaced::Misplaced;
 use crate::prospects::Prospects;
 use crate::span::Span;
@@ -17,7 +19,7 @@ use cat_tree::Item;
 use events::Graph;
 use std::alloc::{AllocError, Global};
 
-/// Passes over executions that a model forbids for a reason that they share.
+/// Passes over executions that a model forbids for a reason that they share, and finds those that it allows whatever their orders are.
 pub struct Pruner {
     /// Whether a check of the model may tell that of executions of which not all is known.
     may_refute: bool,
@@ -133,6 +135,7 @@ impl Pruner {
             return Ok(false);
         }
         if self.misplaced.passes(alloc, walk, number)? {
+            self.prospects.forbid();
             return Ok(true);
         }
         for depth in self.prospects.leave(number)..walk.depths() {
@@ -147,6 +150,85 @@ impl Pruner {
             self.prospects.enter(depth, walk.end_of(depth));
         }
         Ok(false)
+    }
+
+    /// What is said at once of the executions of the block of a depth that begins with the one found last, if it is known that the model
+    /// allows all of them.
+    fn open(
+        &mut self,
+        alloc: Global,
+        evaluator: &mut Evaluator<'_>,
+        walk: &Walk<'_>,
+        depth: usize,
+    ) -> Result<Option<Judged>, AllocError>
+        requires relied { IfSome evaluator.old.relied (λ s. s ≡ structure_of walk.now.shown) }
+        ensures relied { IfSome evaluator.new.relied (λ s. s ≡ structure_of walk.now.shown) }
+        ensures model { evaluator.new.items ≡ evaluator.old.items }
+        ensures refuted { self.new.refuted ≡ self.old.refuted }
+        ensures misplaced { self.new.misplaced ≡ self.old.misplaced }
+        ensures said { IfOk result (λ r. IfSome r (IsSaid evaluator.old.items walk.now)) }
+    {
+        if !self.prospects.may_open(depth) {
+            return Ok(None);
+        }
+        let open = match walk.open_block(depth) {
+            Some(open) => open,
+            None => return Ok(None),
+        };
+        self.prospects.pay_open(depth);
+        let judgement = match evaluator.judge_opened(alloc, walk.graph(), open.cut)? {
+            Some(judgement) => judgement,
+            None => return Ok(None),
+        };
+        self.prospects.earn_open(depth);
+        Ok(Some(Judged {
+            judgement,
+            open: Some(open.orders),
+        }))
+    }
+
+    /// What is said at once of the executions of a block that begins with the one found last, if it is known that the model allows all of them. The blocks
+    /// that were entered with that execution are asked, from the coarsest inwards.
+    pub(crate) fn judge_block(
+        &mut self,
+        alloc: Global,
+        evaluator: &mut Evaluator<'_>,
+        walk: &Walk<'_>,
+    ) -> Result<Option<Judged>, AllocError>
+        requires relied { IfSome evaluator.old.relied (λ s. s ≡ structure_of walk.now.shown) }
+        ensures relied { IfSome evaluator.new.relied (λ s. s ≡ structure_of walk.now.shown) }
+        ensures model { evaluator.new.items ≡ evaluator.old.items }
+        ensures refuted { self.new.refuted ≡ self.old.refuted }
+        ensures misplaced { self.new.misplaced ≡ self.old.misplaced }
+        ensures said { IfOk result (λ r. IfSome r (IsSaid evaluator.old.items walk.now)) }
+    {
+        if self.prospects.opens() >= walk.depths() {
+            return Ok(None);
+        }
+        self.judge_blocks(alloc, evaluator, walk)
+    }
+
+    // The same, where one of the blocks is worth asking.
+    #[inline(never)]
+    fn judge_blocks(
+        &mut self,
+        alloc: Global,
+        evaluator: &mut Evaluator<'_>,
+        walk: &Walk<'_>,
+    ) -> Result<Option<Judged>, AllocError>
+        requires relied { IfSome evaluator.old.relied (λ s. s ≡ structure_of walk.now.shown) }
+        ensures relied { IfSome evaluator.new.relied (λ s. s ≡ structure_of walk.now.shown) }
+        ensures model { evaluator.new.items ≡ evaluator.old.items }
+        ensures refuted { self.new.refuted ≡ self.old.refuted }
+        ensures misplaced { self.new.misplaced ≡ self.old.misplaced }
+        ensures said { IfOk result (λ r. IfSome r (IsSaid evaluator.old.items walk.now)) }
+    {
+        for depth in self.prospects.opens()..walk.depths() {
+            if let Some(judged) = self.open(alloc, evaluator, walk, depth)? {
+                return Ok(Some(judged));
+            }
+        }
+        Ok(None)
     }
 
     /// Notes what was said of an execution that wasn't passed over.

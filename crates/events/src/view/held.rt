@@ -1,10 +1,22 @@
-//! What a view holds of other executions than its own.
+//! What a view holds of other executions than its own, and how its own is shown.
 
 ghost use Rattle.std.specs.Prelude.{◌≡◌};
 ghost use Rattle.events.specs.Held.{held_value, placed_value};
 
 use super::sourced::SourcedStructure;
+use crate::cut::Cut;
 use relations::Rel;
+
+/// How an execution is shown.
+#[derive(Drop)]
+pub(super) enum Shown<'a> {
+    /// As it is.
+    Whole,
+    /// Cut down to what is known of it.
+    CutDown(Cut<'a>),
+    /// With the writes open that the cut leaves without a place.
+    Opened(Cut<'a>),
+}
 
 /// What an execution has in common with those that differ in their coherence orders alone. What is owned lies in a box, so that
 /// a view stays small.

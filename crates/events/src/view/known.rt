@@ -1,6 +1,6 @@
 //! What is known of coherence orders where an execution is cut down, row by row.
 
-ghost use Rattle.std.specs.Prelude.{◌≡◌, ◌⊎◌};
+ghost use Rattle.std.specs.Prelude.{◌≡◌, ◌⊎◌, drop};
 ghost use Rattle.relations.specs.Events.{Has, IsCanonicalSet, IsExactlySet};
 ghost use Rattle.relations.specs.Relation.{In, IsCanonical, IsExactly};
 ghost use Rattle.events.specs.declared.named.RelName.TheVariants.{Co};
@@ -12,6 +12,13 @@ use super::numbered::Numbered;
 use crate::cut::Cut;
 use crate::event::EventId;
 use relations::{Rel, Set};
+
+/// The writes of an order behind the first.
+pub(super) fn later_writes(order: &[EventId]) -> &[EventId]
+    ensures { result.now ≡ drop 1 order.now }
+{
+    order.get(1..).unwrap_or(&[])
+}
 
 impl Numbered<'_> {
     /// Writes what is known of `co`, where the execution is cut down to what is known of it, over what `rel` had.
@@ -35,7 +42,7 @@ impl Numbered<'_> {
             return;
         }
         if location < cut.locations {
-            self.relate_first(rel, order, order.get(1..).unwrap_or(&[]));
+            self.relate_first(rel, order, later_writes(order));
             return;
         }
         self.relate_placed(rel, order, cut.unplaced);
@@ -55,9 +62,9 @@ impl Numbered<'_> {
         }
     }
 
-    // The numbers of events.
+    /// The numbers of events.
     #[tactic(auto, using(crate::proofs::Cutting::numbers_begun))]
-    fn numbers_of(&self, events: &[EventId]) -> Set
+    pub(super) fn numbers_of(&self, events: &[EventId]) -> Set
         ensures { IsExactlySet (event_count self.now) (IsNumberOfOne self.now events.now) result }
     {
         let mut numbers = Set::empty(self.count());

@@ -5,7 +5,7 @@ use Rattle.events.specs.declared.event.EventId.{EventId}
 use Rattle.events.specs.Cuts.{known_part}
 use Rattle.events.specs.Executions.{ThreadRun}
 use Rattle.candidates.specs.declared.depths.Known.{Known}
-use Rattle.candidates.specs.Blocks.{Fits, cut_of}
+use Rattle.candidates.specs.Blocks.{Fits, cut_of, free_of, unplaced_of}
 use Rattle.candidates.specs.Executions.{later_writes, reads}
 use Rattle.candidates.proofs.Listed.{written_at}
 use Rattle.candidates.proofs.block.cut_to.Goals as goal
@@ -28,11 +28,11 @@ slice_bounds-result-end-in-Orders c =
     let l = ap (λ (ws : List EventId). length ws) e in
     sym (length-take-le c.in-Orders.unplaced.writes later (omega (arith, l, fits.1)))
 
-pub returns-in-Sources : goal.returns-in-Sources
-returns-in-Sources c x n r = ap (λ k. known_part x c.in-Sources.count k []) (sym n) ∙ ap (λ k. cut_of k x) (sym c.in-Sources.is)
+pub returns-in-Sources-clause-cut : goal.returns-in-Sources-clause-cut
+returns-in-Sources-clause-cut c x n r = ap (λ k. known_part x c.in-Sources.count k []) (sym n) ∙ ap (λ k. cut_of k x) (sym c.in-Sources.is)
 
-pub returns-in-Orders : goal.returns-in-Orders
-returns-in-Orders c x n r =
+pub returns-in-Orders-clause-cut : goal.returns-in-Orders-clause-cut
+returns-in-Orders-clause-cut c x n r =
     let runs = c.args.page.now.runs.items in
     let P : Known → Type 0 = λ k. Fits c.args.locations runs k in
     let fits = subst P c.in-Orders.is c.requires.known in
@@ -46,3 +46,12 @@ returns-in-Orders c x n r =
     ∙ ap (λ (ws : List EventId). known_part x (length (reads runs)) left.locations (take left.writes ws)) e
     ∙ ap (λ (rs : List ThreadRun). known_part x (length (reads rs)) left.locations (take left.writes (later_writes rs left.locations))) (sym r)
     ∙ ap (λ k. cut_of k x) (sym c.in-Orders.is)
+
+pub returns-in-Orders-clause-parts : goal.returns-in-Orders-clause-parts
+returns-in-Orders-clause-parts c =
+    let runs = c.args.page.now.runs.items in
+    let P : Known → Type 0 = λ k. Fits c.args.locations runs k in
+    let fits = subst P c.in-Orders.is c.requires.known in
+    let left = c.in-Orders.unplaced in
+    let e = c.writes_to.ensures ∙ (written_at runs c.args.locations left.locations c.args.page.now.writes.items c.requires.page.writes_are fits.0).1 in
+    (sym (ap (free_of c.args.locations) c.in-Orders.is), ap (take left.writes) e ∙ sym (ap (unplaced_of runs) c.in-Orders.is))

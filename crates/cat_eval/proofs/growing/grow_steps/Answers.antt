@@ -22,11 +22,11 @@ loop-place-preserved c =
     let step : Step = get_or c.args.steps.now c.loop-place.place Unknown in
     let n = c.loop-place.invariant.long in
     let at : slice_get c.args.steps.now c.loop-place.place ≡ Some step = slice_get-get_or c.args.steps.now c.loop-place.place Unknown (let a = c.loop-place-test.true in let b = c.requires.inside in omega (arith, a, b)) in
-    let P : List Growth → Type 0 = λ gs. GoesBy gs (length gs) step c.growth_of-growth.result in
+    let P : List Growth → Type 0 = λ gs. GoesBy c.args.change gs (length gs) step c.growth_of-growth.result in
     let e = c.in_ok-push.ensures.items in
     record {
       long = (let l = ap length e in let m = length-append c.loop-place.growths.items (c.growth_of-growth.result ∷ []) in omega (arith, l, m, n));
-      going = going_more c.args.steps.now c.loop-place.growths.items c.push.new.self.items c.growth_of-growth.result step c.loop-place.invariant.going (ap (slice_get c.args.steps.now) n ∙ at)
+      going = going_more c.args.change c.args.steps.now c.loop-place.growths.items c.push.new.self.items c.growth_of-growth.result step c.loop-place.invariant.going (ap (slice_get c.args.steps.now) n ∙ at)
           (subst P c.deref.ensures.value c.growth_of-growth.ensures.goes) e;
       longer = longer_more c.args.growths.now.items c.loop-place.growths.items c.push.new.self.items c.growth_of-growth.result c.loop-place.invariant.longer e;
       rounds = rounds_more c.args.steps.now c.loop-place.growths.items c.push.new.self.items c.growth_of-growth.result step (length c.args.growths.now.items) c.loop-place.place c.args.rounds c.loop-place.invariant.rounds n at

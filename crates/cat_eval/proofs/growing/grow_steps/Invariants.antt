@@ -6,7 +6,7 @@ use Rattle.cat_eval.proofs.growing.grow_steps.Given as goal
 abbrev pub invariant-loop-place : goal.invariant-loop-place
 invariant-loop-place l = record {
   long : length l.growths.items ≡ l.place;
-  going : AreGoing l.steps l.growths.items;
+  going : AreGoing l.change l.steps l.growths.items;
   longer : IsLonger l.fn.growths.items l.growths.items;
   rounds : RoundsGo l.steps l.growths.items (length l.fn.growths.items) l.place l.rounds;
 }

@@ -1,15 +1,13 @@
-use Rattle.std.proofs.Common.{◌≡◌, ◌+◌, ◌<◌, ◌↔◌, ◌∙◌, List, [], map, refl, sym, ap, subst, IsTrue, arith}
+use Rattle.std.proofs.Common.{◌≡◌, ◌+◌, ◌<◌, ◌∙◌, List, [], map, refl, sym, ap, subst, arith}
 use Rattle.std.specs.Prelude.{Some, IfSome, max, min}
-use Rattle.listings.specs.Lists.{Lists}
 use Rattle.cat_tree.specs.Tree.{Clause}
 use Rattle.conditions.specs.States.{AreObserved}
 use Rattle.conditions.specs.declared.place.Place.{Place}
-use Rattle.cat_eval.specs.Judging.{Allowed, Raised}
-use Rattle.cat_eval.specs.Orderless.{IsOrderless}
 use Rattle.candidates.specs.Candidates.{Choices, choices_of, graph_at}
 use Rattle.candidates.specs.Walks.{IsHit, Walking}
 use Rattle.events.specs.Executions.{GraphValue}
 use Rattle.events.specs.Structures.{structure_of}
+use Rattle.slices.specs.Judgements.{IsJudged}
 use Rattle.slices.specs.Misplaced.{AreLearned}
 use Rattle.slices.specs.Parts.{IsAdmitted}
 use Rattle.slices.specs.Passing.{ArePassed}
@@ -18,9 +16,10 @@ use Rattle.slices.specs.Steady.{AreSteady}
 use Rattle.slices.specs.Verdicts.{Tells}
 use Rattle.slices.specs.Works.{WorkValue}
 use Rattle.slices.proofs.Counted.{walked_none_yet, walked_none}
-use Rattle.slices.proofs.PassedOver.{hit_number, is_passed, knows_alike, miss_number, not_passed, walk_nearer, walked_on, walked_over}
+use Rattle.slices.proofs.Judging.{said_alone, said_behind}
+use Rattle.slices.proofs.PassedOver.{hit_number, is_passed, knows_alike, miss_number, not_passed, shown_at, walk_nearer, walked_on, walked_over}
 use Rattle.slices.proofs.Steadily.{steady_behind, steady_from, steady_nowhere}
-use Rattle.slices.proofs.Weighed.{IsJudged, alike_at, alike_within, as_long, few_ways, same_places, walked_alike, walked_one}
+use Rattle.slices.proofs.Weighed.{as_long, few_ways, said_at, same_places, walked_alike, walked_one}
 use Rattle.slices.proofs.counting.count.Goals as goal
 
 pub loop-finding-init : goal.loop-finding-init
@@ -48,10 +47,13 @@ weigh_alike-requires-clause-ways c =
     let same = not_passed c.in_ok-passes.field-0 (ArePassed c.rely-steady.new.evaluator.items n c.next.new.self c.passes.new.walk) (c.passes.new.walk ≡ c.next.new.self) c.if-branch.false c.in_ok-passes.ensures.passed in
     let H : Walking → Type 0 = λ w. IsHit c.loop-finding.walk w n in
     let here = subst H (sym same) hit in
-    let o = c.in-Some-alike_behind.range in
-    let alike = alike_at c.loop-finding.walk c.passes.new.walk n o here c.in-Some-alike_behind.ensures.alike in
-    let within = alike_within c.args.work.now.test c.args.work.now.model.items c.args.walk.now.next c.args.walk.now.to n o.size c.loop-finding.walk c.passes.new.walk c.loop-finding.finding c.loop-finding.invariant.counted here c.requires.range (subst (λ (z : WorkValue). IsAdmitted z.test) c.work-inner.ensures c.size.ensures.admitted) c.in-Some-alike_behind.ensures.within in
-    (few_ways c.args.work.now.test c.args.work.now.model.items c.args.walk.now.next c.args.walk.now.to n c.loop-finding.walk c.passes.new.walk c.slots-slots.result.now o c.graph-graph.result.now c.loop-finding.finding c.loop-finding.invariant.counted here alike.0 alike.1 c.graph-graph.ensures within).0
+    let model = c.passes.ensures.model ∙ (c.rely-steady.ensures.items ∙ c.loop-finding.invariant.model) in
+    let admitted = subst (λ (z : WorkValue). IsAdmitted z.test) c.work-inner.ensures c.size.ensures.admitted in
+    let j = c.in_ok-judgement.field-0.judgement in
+    let o = c.in-Some-open.range in
+    let said = said_behind c.passes.new.evaluator.items c.args.work.now.model.items c.passes.new.walk c.in_ok-judgement.field-0 o model c.in-Some-open.is c.in_ok-judgement.ensures.said in
+    let at = said_at c.args.work.now.test c.args.work.now.model.items c.args.walk.now.next c.args.walk.now.to n c.loop-finding.walk c.passes.new.walk j o c.loop-finding.finding c.loop-finding.invariant.counted here c.requires.range admitted said in
+    (few_ways c.args.work.now.test c.args.work.now.model.items c.args.walk.now.next c.args.walk.now.to n c.loop-finding.walk c.passes.new.walk c.slots-slots.result.now o c.graph-graph.result.now c.loop-finding.finding c.loop-finding.invariant.counted here at.alike at.at c.graph-graph.ensures at.within).0
 
 pub weigh_alike-requires-clause-few : goal.weigh_alike-requires-clause-few
 weigh_alike-requires-clause-few c =
@@ -60,10 +62,13 @@ weigh_alike-requires-clause-few c =
     let same = not_passed c.in_ok-passes.field-0 (ArePassed c.rely-steady.new.evaluator.items n c.next.new.self c.passes.new.walk) (c.passes.new.walk ≡ c.next.new.self) c.if-branch.false c.in_ok-passes.ensures.passed in
     let H : Walking → Type 0 = λ w. IsHit c.loop-finding.walk w n in
     let here = subst H (sym same) hit in
-    let o = c.in-Some-alike_behind.range in
-    let alike = alike_at c.loop-finding.walk c.passes.new.walk n o here c.in-Some-alike_behind.ensures.alike in
-    let within = alike_within c.args.work.now.test c.args.work.now.model.items c.args.walk.now.next c.args.walk.now.to n o.size c.loop-finding.walk c.passes.new.walk c.loop-finding.finding c.loop-finding.invariant.counted here c.requires.range (subst (λ (z : WorkValue). IsAdmitted z.test) c.work-inner.ensures c.size.ensures.admitted) c.in-Some-alike_behind.ensures.within in
-    (few_ways c.args.work.now.test c.args.work.now.model.items c.args.walk.now.next c.args.walk.now.to n c.loop-finding.walk c.passes.new.walk c.slots-slots.result.now o c.graph-graph.result.now c.loop-finding.finding c.loop-finding.invariant.counted here alike.0 alike.1 c.graph-graph.ensures within).1
+    let model = c.passes.ensures.model ∙ (c.rely-steady.ensures.items ∙ c.loop-finding.invariant.model) in
+    let admitted = subst (λ (z : WorkValue). IsAdmitted z.test) c.work-inner.ensures c.size.ensures.admitted in
+    let j = c.in_ok-judgement.field-0.judgement in
+    let o = c.in-Some-open.range in
+    let said = said_behind c.passes.new.evaluator.items c.args.work.now.model.items c.passes.new.walk c.in_ok-judgement.field-0 o model c.in-Some-open.is c.in_ok-judgement.ensures.said in
+    let at = said_at c.args.work.now.test c.args.work.now.model.items c.args.walk.now.next c.args.walk.now.to n c.loop-finding.walk c.passes.new.walk j o c.loop-finding.finding c.loop-finding.invariant.counted here c.requires.range admitted said in
+    (few_ways c.args.work.now.test c.args.work.now.model.items c.args.walk.now.next c.args.walk.now.to n c.loop-finding.walk c.passes.new.walk c.slots-slots.result.now o c.graph-graph.result.now c.loop-finding.finding c.loop-finding.invariant.counted here at.alike at.at c.graph-graph.ensures at.within).1
 
 pub overflow_add-number : goal.overflow_add-number
 overflow_add-number c =
@@ -72,15 +77,19 @@ overflow_add-number c =
     let same = not_passed c.in_ok-passes.field-0 (ArePassed c.rely-steady.new.evaluator.items n c.next.new.self c.passes.new.walk) (c.passes.new.walk ≡ c.next.new.self) c.if-branch.false c.in_ok-passes.ensures.passed in
     let H : Walking → Type 0 = λ w. IsHit c.loop-finding.walk w n in
     let here = subst H (sym same) hit in
-    let o = c.in-Some-alike_behind.range in
-    let within = alike_within c.args.work.now.test c.args.work.now.model.items c.args.walk.now.next c.args.walk.now.to n o.size c.loop-finding.walk c.passes.new.walk c.loop-finding.finding c.loop-finding.invariant.counted here c.requires.range (subst (λ (z : WorkValue). IsAdmitted z.test) c.work-inner.ensures c.size.ensures.admitted) c.in-Some-alike_behind.ensures.within in
-    let end = within.0 in
-    let least = within.1 in
-    let size = c.size-in-Some-alike_behind.ensures in
+    let model = c.passes.ensures.model ∙ (c.rely-steady.ensures.items ∙ c.loop-finding.invariant.model) in
+    let admitted = subst (λ (z : WorkValue). IsAdmitted z.test) c.work-inner.ensures c.size.ensures.admitted in
+    let j = c.in_ok-judgement.field-0.judgement in
+    let o = c.in-Some-open.range in
+    let said = said_behind c.passes.new.evaluator.items c.args.work.now.model.items c.passes.new.walk c.in_ok-judgement.field-0 o model c.in-Some-open.is c.in_ok-judgement.ensures.said in
+    let at = said_at c.args.work.now.test c.args.work.now.model.items c.args.walk.now.next c.args.walk.now.to n c.loop-finding.walk c.passes.new.walk j o c.loop-finding.finding c.loop-finding.invariant.counted here c.requires.range admitted said in
+    let end = at.within.0 in
+    let least = at.within.1 in
+    let size = c.size-in-Some-open.ensures in
     omega (arith, end, least, size)
 
-pub loop-finding-preserved-in-Some-alike_behind : goal.loop-finding-preserved-in-Some-alike_behind
-loop-finding-preserved-in-Some-alike_behind c =
+pub loop-finding-preserved-in-Some-open : goal.loop-finding-preserved-in-Some-open
+loop-finding-preserved-in-Some-open c =
     let w = c.args.work.now in
     let inv = c.loop-finding.invariant in
     let n = c.in-Some.number in
@@ -88,27 +97,24 @@ loop-finding-preserved-in-Some-alike_behind c =
     let same = not_passed c.in_ok-passes.field-0 (ArePassed c.rely-steady.new.evaluator.items n c.next.new.self c.passes.new.walk) (c.passes.new.walk ≡ c.next.new.self) c.if-branch.false c.in_ok-passes.ensures.passed in
     let H : Walking → Type 0 = λ w. IsHit c.loop-finding.walk w n in
     let here = subst H (sym same) hit in
-    let o = c.in-Some-alike_behind.range in
-    let alike = alike_at c.loop-finding.walk c.passes.new.walk n o here c.in-Some-alike_behind.ensures.alike in
-    let within = alike_within w.test w.model.items c.args.walk.now.next c.args.walk.now.to n o.size c.loop-finding.walk c.passes.new.walk c.loop-finding.finding inv.counted here c.requires.range (subst (λ (z : WorkValue). IsAdmitted z.test) c.work-inner.ensures c.size.ensures.admitted) c.in-Some-alike_behind.ensures.within in
-    let P : List Clause → Type 0 = λ items. IsTrue c.in_ok-judgement.judgement.allowed ↔ Allowed items c.graph-graph.result.now in
-    let F : List Clause → Type 0 = λ items. Lists (λ name. Allowed items c.graph-graph.result.now × Raised items c.graph-graph.result.now name) c.in_ok-judgement.judgement.flags in
-    let model = c.passes.ensures.model ∙ (c.rely-steady.ensures.items ∙ inv.model) in
-    let judged : IsJudged w.model.items c.graph-graph.result.now c.in_ok-judgement.judgement.allowed c.in_ok-judgement.judgement.flags = record { allowed = subst P model c.in_ok-judgement.ensures.allowed; flags = subst F model c.in_ok-judgement.ensures.flags } in
-    let orderless = subst (λ (z : WorkValue). IsOrderless z.model.items) c.work-inner.ensures c.in-Some-alike_behind.ensures.orderless in
-    let next = c.pass.ensures.next ∙ ap (λ x. max c.passes.new.walk.next (min (n + x) c.passes.new.walk.to)) c.size-in-Some-alike_behind.ensures in
+    let model = c.passes.ensures.model ∙ (c.rely-steady.ensures.items ∙ c.loop-finding.invariant.model) in
+    let admitted = subst (λ (z : WorkValue). IsAdmitted z.test) c.work-inner.ensures c.size.ensures.admitted in
+    let j = c.in_ok-judgement.field-0.judgement in
+    let o = c.in-Some-open.range in
+    let said = said_behind c.passes.new.evaluator.items c.args.work.now.model.items c.passes.new.walk c.in_ok-judgement.field-0 o model c.in-Some-open.is c.in_ok-judgement.ensures.said in
+    let at = said_at c.args.work.now.test c.args.work.now.model.items c.args.walk.now.next c.args.walk.now.to n c.loop-finding.walk c.passes.new.walk j o c.loop-finding.finding c.loop-finding.invariant.counted here c.requires.range admitted said in
+    let next = c.pass.ensures.next ∙ ap (λ x. max c.passes.new.walk.next (min (n + x) c.passes.new.walk.to)) c.size-in-Some-open.ensures in
     record {
-      counted = walked_alike w.test w.model.items c.args.walk.now.next c.args.walk.now.to n c.loop-finding.walk c.passes.new.walk c.pass.new.self c.graph-graph.result.now c.slots-slots.result.now o c.in_ok-judgement.judgement.allowed c.in_ok-judgement.judgement.flags c.loop-finding.finding c.weigh_alike.new.self inv.counted here c.graph-graph.ensures orderless (inv.slots) alike.0 alike.1 judged within c.in_ok-weigh_alike.ensures c.pass.ensures.space c.pass.ensures.to next;
-      slots = inv.slots ∙ ap (map (slot_of w.test)) (sym (same_places c.in_ok-judgement.judgement.allowed c.loop-finding.finding _ c.weigh_alike.new.self c.in_ok-weigh_alike.ensures));
-      steady = (let S : Choices → Type 0 = λ s. AreSteady s c.pass.new.self.next c.rely-steady.result c.learn.new.evaluator.relied in
+      counted = walked_alike w.test w.model.items c.args.walk.now.next c.args.walk.now.to n c.loop-finding.walk c.passes.new.walk c.pass.new.self c.graph-graph.result.now c.slots-slots.result.now o j c.loop-finding.finding c.weigh_alike.new.self inv.counted here c.graph-graph.ensures inv.slots at.alike at.at at.judged at.within c.in_ok-weigh_alike.ensures c.pass.ensures.space c.pass.ensures.to next;
+      slots = inv.slots ∙ ap (map (slot_of w.test)) (sym (same_places j.allowed c.loop-finding.finding _ c.weigh_alike.new.self c.in_ok-weigh_alike.ensures));
+      steady = (let S : Choices → Type 0 = λ s. AreSteady s c.pass.new.self.next c.rely-steady.result c.judge.new.evaluator.relied in
           let on : n < c.pass.new.self.next = (let l = hit.step.next in let e = c.pass.ensures.next in let z = ap (λ (w : Walking). w.next) same in omega (arith, l, e, z)) in
           subst S (sym (c.pass.ensures.space ∙ ap (λ (w : Walking). w.space) same))
-          (steady_behind c.next.new.self.space n c.rely-steady.result c.pass.new.self.next n c.next.new.self.shown c.rely-steady.new.evaluator.relied c.learn.new.evaluator.relied c.rely-steady.ensures.steady (omega arith) on (omega (arith, on))
+          (steady_behind c.next.new.self.space n c.rely-steady.result c.pass.new.self.next n c.next.new.self.shown c.rely-steady.new.evaluator.relied c.judge.new.evaluator.relied c.rely-steady.ensures.steady (omega arith) on (omega (arith, on))
           (let G : Choices → Type 0 = λ s. graph_at s n ≡ Some c.next.new.self.shown in subst G (sym hit.step.space) hit.at)
-          (let R : Walking → Type 0 = λ w. IfSome c.learn.new.evaluator.relied (λ r. r ≡ structure_of w.shown) in let Q : GraphValue → Type 0 = λ g. IfSome c.learn.new.evaluator.relied (λ r. r ≡ structure_of g) in subst R same (subst Q c.graph-graph.ensures c.learn.ensures.relied))));
-      model = c.learn.ensures.model ∙ c.judge_next.ensures.model ∙ c.passes.ensures.model ∙ (c.rely-steady.ensures.items ∙ inv.model);
-      known = (let L : List Clause → Type 0 = λ z. AreLearned z c.learn.new.self.misplaced in
-          knows_alike _ _ _ _ c.passes.new.self c.learn.new.self (hit.step.space ∙ inv.counted.space) (c.rely-steady.ensures.items ∙ inv.model) c.learn.ensures.refuted (λ l. subst L (c.judge_next.ensures.model ∙ c.passes.ensures.model ∙ (c.rely-steady.ensures.items ∙ inv.model)) c.learn.ensures.learned) c.passes.ensures.known);
+          (let R : Walking → Type 0 = λ w. IfSome c.judge.new.evaluator.relied (λ r. r ≡ structure_of w.shown) in subst R same c.judge.ensures.relied)));
+      model = c.judge.ensures.model ∙ model;
+      known = knows_alike _ _ _ _ c.passes.new.self c.judge.new.pruner (hit.step.space ∙ inv.counted.space) (c.rely-steady.ensures.items ∙ inv.model) c.judge.ensures.refuted (λ _. (let L : List Clause → Type 0 = λ z. AreLearned z c.judge.new.pruner.misplaced in subst L model c.judge.ensures.learned)) c.passes.ensures.known;
     }
 
 pub loop-finding-preserved-then-branch : goal.loop-finding-preserved-then-branch
@@ -137,21 +143,21 @@ loop-finding-preserved c =
     let hit = hit_number c.loop-finding.walk c.next.new.self c.in_ok-number.field-0 n c.in-Some.is c.in_ok-number.ensures.found in
     let same = not_passed c.in_ok-passes.field-0 (ArePassed c.rely-steady.new.evaluator.items n c.next.new.self c.passes.new.walk) (c.passes.new.walk ≡ c.next.new.self) c.if-branch.false c.in_ok-passes.ensures.passed in
     let H : Walking → Type 0 = λ w. IsHit c.loop-finding.walk w n in
-    let P : List Clause → Type 0 = λ items. IsTrue c.in_ok-judgement.judgement.allowed ↔ Allowed items c.graph-graph.result.now in
-    let F : List Clause → Type 0 = λ items. Lists (λ name. Allowed items c.graph-graph.result.now × Raised items c.graph-graph.result.now name) c.in_ok-judgement.judgement.flags in
+    let here = subst H (sym same) hit in
     let model = c.passes.ensures.model ∙ (c.rely-steady.ensures.items ∙ inv.model) in
-    let judged : IsJudged w.model.items c.graph-graph.result.now c.in_ok-judgement.judgement.allowed c.in_ok-judgement.judgement.flags = record { allowed = subst P model c.in_ok-judgement.ensures.allowed; flags = subst F model c.in_ok-judgement.ensures.flags } in
+    let j = c.in_ok-judgement.field-0.judgement in
+    let said = said_alone c.passes.new.evaluator.items w.model.items c.passes.new.walk c.in_ok-judgement.field-0 model c.in_default-open.not-Some c.in_ok-judgement.ensures.said in
+    let J : GraphValue → Type 0 = λ x. IsJudged w.model.items j x in
     record {
-      counted = walked_one w.test w.model.items c.args.walk.now.next c.args.walk.now.to n c.loop-finding.walk c.passes.new.walk c.graph-graph.result.now c.slots-slots.result.now c.in_ok-judgement.judgement.allowed c.in_ok-judgement.judgement.flags c.loop-finding.finding c.weigh.new.self inv.counted (subst H (sym same) hit) c.graph-graph.ensures (inv.slots) judged c.in_ok-weigh.ensures;
-      slots = inv.slots ∙ ap (map (slot_of w.test)) (sym (same_places c.in_ok-judgement.judgement.allowed c.loop-finding.finding _ c.weigh.new.self c.in_ok-weigh.ensures));
-      steady = (let W : Walking → Type 0 = λ w. AreSteady w.space w.next c.rely-steady.result c.learn.new.evaluator.relied in
+      counted = walked_one w.test w.model.items c.args.walk.now.next c.args.walk.now.to n c.loop-finding.walk c.passes.new.walk c.graph-graph.result.now c.slots-slots.result.now j c.loop-finding.finding c.weigh.new.self inv.counted here c.graph-graph.ensures inv.slots (subst J (sym c.graph-graph.ensures) said) c.in_ok-weigh.ensures;
+      slots = inv.slots ∙ ap (map (slot_of w.test)) (sym (same_places j.allowed c.loop-finding.finding _ c.weigh.new.self c.in_ok-weigh.ensures));
+      steady = (let W : Walking → Type 0 = λ w. AreSteady w.space w.next c.rely-steady.result c.judge.new.evaluator.relied in
           subst W (sym same)
-          (steady_behind c.next.new.self.space n c.rely-steady.result c.next.new.self.next n c.next.new.self.shown c.rely-steady.new.evaluator.relied c.learn.new.evaluator.relied c.rely-steady.ensures.steady (omega arith) (let l = hit.step.next in omega (arith, l)) (let l = hit.step.next in omega (arith, l))
+          (steady_behind c.next.new.self.space n c.rely-steady.result c.next.new.self.next n c.next.new.self.shown c.rely-steady.new.evaluator.relied c.judge.new.evaluator.relied c.rely-steady.ensures.steady (omega arith) (let l = hit.step.next in omega (arith, l)) (let l = hit.step.next in omega (arith, l))
           (let G : Choices → Type 0 = λ s. graph_at s n ≡ Some c.next.new.self.shown in subst G (sym hit.step.space) hit.at)
-          (let R : Walking → Type 0 = λ w. IfSome c.learn.new.evaluator.relied (λ r. r ≡ structure_of w.shown) in let Q : GraphValue → Type 0 = λ g. IfSome c.learn.new.evaluator.relied (λ r. r ≡ structure_of g) in subst R same (subst Q c.graph-graph.ensures c.learn.ensures.relied))));
-      model = c.learn.ensures.model ∙ c.judge_next.ensures.model ∙ c.passes.ensures.model ∙ (c.rely-steady.ensures.items ∙ inv.model);
-      known = (let L : List Clause → Type 0 = λ z. AreLearned z c.learn.new.self.misplaced in
-          knows_alike _ _ _ _ c.passes.new.self c.learn.new.self (hit.step.space ∙ inv.counted.space) (c.rely-steady.ensures.items ∙ inv.model) c.learn.ensures.refuted (λ l. subst L (c.judge_next.ensures.model ∙ c.passes.ensures.model ∙ (c.rely-steady.ensures.items ∙ inv.model)) c.learn.ensures.learned) c.passes.ensures.known);
+          (let R : Walking → Type 0 = λ w. IfSome c.judge.new.evaluator.relied (λ r. r ≡ structure_of w.shown) in subst R same c.judge.ensures.relied)));
+      model = c.judge.ensures.model ∙ model;
+      known = knows_alike _ _ _ _ c.passes.new.self c.judge.new.pruner (hit.step.space ∙ inv.counted.space) (c.rely-steady.ensures.items ∙ inv.model) c.judge.ensures.refuted (λ _. (let L : List Clause → Type 0 = λ z. AreLearned z c.judge.new.pruner.misplaced in subst L model c.judge.ensures.learned)) c.passes.ensures.known;
     }
 
 pub weigh-requires-clause-whole : goal.weigh-requires-clause-whole
@@ -174,13 +180,21 @@ rely-steady-requires c =
           subst S (sym hit.step.space) (steady_from _ c.loop-finding.walk.next _ n _ hit.later inv.steady));
     }
 
-pub judge_next-requires : goal.judge_next-requires
-judge_next-requires c =
+pub judge-requires : goal.judge-requires
+judge-requires c =
     let n = c.in-Some.number in
+    let hit = hit_number c.loop-finding.walk c.next.new.self c.in_ok-number.field-0 n c.in-Some.is c.in_ok-number.ensures.found in
     let same = not_passed c.in_ok-passes.field-0 (ArePassed c.rely-steady.new.evaluator.items n c.next.new.self c.passes.new.walk) (c.passes.new.walk ≡ c.next.new.self) c.if-branch.false c.in_ok-passes.ensures.passed in
+    let H : Walking → Type 0 = λ w. IsHit c.loop-finding.walk w n in
+    let here = subst H (sym same) hit in
     let R : Walking → Type 0 = λ w. IfSome c.passes.new.evaluator.relied (λ r. r ≡ structure_of w.shown) in
-    let Q : GraphValue → Type 0 = λ g. IfSome c.passes.new.evaluator.relied (λ r. r ≡ structure_of g) in
-    record { relied = subst Q (sym c.graph-graph.ensures) (subst R (sym same) c.passes.ensures.relied) }
+    let L : List Clause → Type 0 = λ z. AreLearned z c.passes.new.self.misplaced in
+    record {
+      shown = shown_at c.loop-finding.walk c.passes.new.walk n here;
+      relied = subst R (sym same) c.passes.ensures.relied;
+      model = c.passes.ensures.model ∙ (c.rely-steady.ensures.items ∙ c.loop-finding.invariant.model) ∙ sym (ap (λ (z : WorkValue). z.model.items) c.work-inner.ensures);
+      learned = subst L (sym c.passes.ensures.model) c.passes.ensures.known.1;
+    }
 
 pub passes-requires : goal.passes-requires
 passes-requires c =
@@ -193,20 +207,14 @@ passes-requires c =
       known = knows_alike _ _ _ _ c.loop-finding.pruner c.loop-finding.pruner (sym (hit.step.space ∙ inv.counted.space)) (sym (c.rely-steady.ensures.items ∙ inv.model)) refl (λ l. l) inv.known;
     }
 
-pub learn-requires : goal.learn-requires
-learn-requires c = record {
-  relied = c.judge_next.ensures.relied;
-  learned = (let L : List Clause → Type 0 = λ z. AreLearned z c.passes.new.self.misplaced in subst L (sym (c.judge_next.ensures.model ∙ c.passes.ensures.model)) c.passes.ensures.known.1);
-}
-
 pub loop-finding-smaller-then-branch : goal.loop-finding-smaller-then-branch
 loop-finding-smaller-then-branch c =
     let hit = hit_number c.loop-finding.walk c.next.new.self c.in_ok-number.field-0 c.in-Some.number c.in-Some.is c.in_ok-number.ensures.found in
     let over = is_passed c.in_ok-passes.field-0 (ArePassed c.rely-steady.new.evaluator.items c.in-Some.number c.next.new.self c.passes.new.walk) (c.passes.new.walk ≡ c.next.new.self) c.if-branch.true c.in_ok-passes.ensures.passed in
     walk_nearer c.in-Some.number c.loop-finding.walk c.passes.new.walk (over.to ∙ hit.step.to) over.later hit.later hit.below
 
-pub loop-finding-smaller-in-Some-alike_behind : goal.loop-finding-smaller-in-Some-alike_behind
-loop-finding-smaller-in-Some-alike_behind c =
+pub loop-finding-smaller-in-Some-open : goal.loop-finding-smaller-in-Some-open
+loop-finding-smaller-in-Some-open c =
     let n = c.in-Some.number in
     let hit = hit_number c.loop-finding.walk c.next.new.self c.in_ok-number.field-0 n c.in-Some.is c.in_ok-number.ensures.found in
     let same = not_passed c.in_ok-passes.field-0 (ArePassed c.rely-steady.new.evaluator.items n c.next.new.self c.passes.new.walk) (c.passes.new.walk ≡ c.next.new.self) c.if-branch.false c.in_ok-passes.ensures.passed in
@@ -225,16 +233,13 @@ loop-finding-smaller c =
     walk_nearer c.in-Some.number c.loop-finding.walk c.passes.new.walk here.step.to (let next = here.step.next in omega (arith, next)) hit.later hit.below
 
 pub returns-in_err-weigh_alike-clause-evaluator : goal.returns-in_err-weigh_alike-clause-evaluator
-returns-in_err-weigh_alike-clause-evaluator c = c.in_ok-learn.ensures.model ∙ c.in_ok-judgement.ensures.model ∙ c.in_ok-passes.ensures.model ∙ c.rely-steady.ensures.items ∙ c.loop-finding.invariant.model ∙ sym c.requires.evaluator
+returns-in_err-weigh_alike-clause-evaluator c = c.in_ok-judgement.ensures.model ∙ c.in_ok-passes.ensures.model ∙ c.rely-steady.ensures.items ∙ c.loop-finding.invariant.model ∙ sym c.requires.evaluator
 
 pub returns-in_err-weigh-clause-evaluator : goal.returns-in_err-weigh-clause-evaluator
-returns-in_err-weigh-clause-evaluator c = c.in_ok-learn.ensures.model ∙ c.in_ok-judgement.ensures.model ∙ c.in_ok-passes.ensures.model ∙ c.rely-steady.ensures.items ∙ c.loop-finding.invariant.model ∙ sym c.requires.evaluator
-
-pub returns-in_err-learn-clause-evaluator : goal.returns-in_err-learn-clause-evaluator
-returns-in_err-learn-clause-evaluator c = c.learn.ensures.model ∙ c.in_ok-judgement.ensures.model ∙ c.in_ok-passes.ensures.model ∙ c.rely-steady.ensures.items ∙ c.loop-finding.invariant.model ∙ sym c.requires.evaluator
+returns-in_err-weigh-clause-evaluator c = c.in_ok-judgement.ensures.model ∙ c.in_ok-passes.ensures.model ∙ c.rely-steady.ensures.items ∙ c.loop-finding.invariant.model ∙ sym c.requires.evaluator
 
 pub returns-in_err-judgement-clause-evaluator : goal.returns-in_err-judgement-clause-evaluator
-returns-in_err-judgement-clause-evaluator c = c.judge_next.ensures.model ∙ c.in_ok-passes.ensures.model ∙ c.rely-steady.ensures.items ∙ c.loop-finding.invariant.model ∙ sym c.requires.evaluator
+returns-in_err-judgement-clause-evaluator c = c.judge.ensures.model ∙ c.in_ok-passes.ensures.model ∙ c.rely-steady.ensures.items ∙ c.loop-finding.invariant.model ∙ sym c.requires.evaluator
 
 pub returns-clause-evaluator : goal.returns-clause-evaluator
 returns-clause-evaluator c = c.loop-finding.invariant.model ∙ sym c.requires.evaluator

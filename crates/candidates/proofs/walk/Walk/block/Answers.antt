@@ -28,7 +28,7 @@ returns-clause-extend c =
     let r = c.in_ok-section.section in
     let k = c.in_ok-section.ensures.section s c.self.invariant.scene.stretch in
     let p = parts_shown s w.scene c.self.invariant.scene (omega (arith, k.within)) in
-    let cut = c.cut_to-cut.ensures w.scene.graph (p.0 ∙ sym (ap (λ (is : List ℕ). length is) c.init-locations.ensures)) p.1 in
+    let cut = c.cut_to-cut.ensures.cut w.scene.graph (p.0 ∙ sym (ap (λ (is : List ℕ). length is) c.init-locations.ensures)) p.1 in
     let P : Walking → Type 0 = λ v. AllExtend v.space (v.next - 1) r.end (cut_down v.shown c.cut_to-cut.result) in
     let Q : GraphValue → Type 0 = λ g. AllExtend s (w.next - 1) r.end g in
     subst P c.self.view_is (subst Q (sym cut) (block_extends s w.scene w.next c.args.depth r c.self.invariant.scene k c.if-section-scene.false))
@@ -49,6 +49,6 @@ returns-clause-cut c =
     let r = c.in_ok-section.section in
     let k = c.in_ok-section.ensures.section s c.self.invariant.scene.stretch in
     let p = parts_shown s w.scene c.self.invariant.scene (omega (arith, k.within)) in
-    let cut = c.cut_to-cut.ensures w.scene.graph (p.0 ∙ sym (ap (λ (is : List ℕ). length is) c.init-locations.ensures)) p.1 in
+    let cut = c.cut_to-cut.ensures.cut w.scene.graph (p.0 ∙ sym (ap (λ (is : List ℕ). length is) c.init-locations.ensures)) p.1 in
     let P : Walking → Type 0 = λ v. cut_down v.shown c.cut_to-cut.result ≡ cut_at v.shown (depths_around v) c.args.depth in
     subst P c.self.view_is (cut ∙ block_cut s w.scene w.next c.args.depth r c.self.invariant.scene k)

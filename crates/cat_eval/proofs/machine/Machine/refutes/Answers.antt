@@ -8,7 +8,8 @@ use Rattle.cat_eval.proofs.machine.Machine.refutes.Goals as goal
 pub loop-number-init : goal.loop-number-init
 loop-number-init c = record {
   machine = c.requires.machine;
-  standing = standing_none c.args.self.now.view.now c.args.self.now.code.absent.now c.args.self.now.code.steps.now c.args.self.now.code.items.now c.args.growths.now c.args.values.now c.extension.ensures.sets c.extension.ensures.stay c.extension.ensures.grow
+  standing = standing_none c.args.self.now.view.now c.args.self.now.code.absent.now c.args.self.now.code.steps.now c.args.self.now.code.items.now c.args.growths.now c.args.values.now
+      (record { sets = c.extension.ensures.sets; stay = c.extension.ensures.stay; grow = c.extension.ensures.grow; decided_sets = c.opening.ensures.sets; decided = c.opening.ensures.relations })
       c.requires.code.speaks c.requires.code.runs c.requires.absent;
 }
 

@@ -8,4 +8,4 @@ pub returns : goal.returns
 returns c =
     let v = c.self.inside in
     let P : GraphValue → Type 0 = λ g. All (IsNamed g.init g.runs) g.rf in
-    fr_named c.args.self.now c.co.result.now c.turned.result.now _ (subst P c.self.view_is (seen_named v.cut v.graph.now c.runs.ensures.graph)) c.turned.ensures c.co.ensures c.become_seq.ensures
+    fr_named c.args.self.now c.co.result.now c.turned.result.now _ (subst P c.self.view_is (seen_named v.shown v.graph.now c.runs.ensures.graph)) c.turned.ensures c.co.ensures c.become_seq.ensures
