@@ -9,7 +9,7 @@ use std::marker::Model;
 use wb_text::{Failed, Source};
 
 /// How many bytes are taken at once.
-const BLOCK: usize = 65_536;
+const BLOCK: usize = 8_192;
 
 /// Bytes that were taken from a source and are not used yet. Contracts see those.
 #[derive(Drop)]

@@ -13,11 +13,12 @@ use Rattle.std.proofs.lemmas.List.{append_assoc, drop_all, drop_more, take-appen
 use Rattle.std.proofs.lemmas.Map.Text.{is_eq-slice_cmp}
 use Rattle.std.proofs.lemmas.Slice.Eq.{bytes_eq-Decides}
 use Rattle.listings.specs.Lists.{IsIn}
-use Rattle.slices.specs.Sums.{IsUnion, IsWithout}
+use Rattle.slices.specs.Sums.{IsGrownBy, IsUnion, IsWithout}
 use Rattle.slices.specs.Verdicts.{AreSorted}
 use Rattle.slices.proofs.Counted.{in_front, at_last, of_push}
 use Rattle.slices.proofs.Rows.{row_cmp, are_sorted, precedes-irreflexive}
 use Rattle.slices.proofs.Sorted.{below, same_sorted, sorted_tail}
+use Rattle.slices.proofs.Unions.{union_none, union_one, union_union}
 
 -- the test for a row
 
@@ -43,37 +44,6 @@ pub row_any : (r : List ℕ) (ks : List (List ℕ)) → IsIn r ks → list_any (
 row_any r [] p = absurd p
 row_any r (x ∷ xs) (inl e) = ap (λ b. b || list_any (is_at (row_cmp r)) xs) (row_same r x e)
 row_any r (x ∷ xs) (inr p) = or_later (is_at (row_cmp r) x) (list_any (is_at (row_cmp r)) xs) (row_any r xs p)
-
--- the rows that a list has not
-
-abbrev pub lacks : List (List ℕ) → List ℕ → Bool
-lacks ks r = not (list_any (is_at (row_cmp r)) ks)
-
-lacks_choice : (b : Bool) (s x : List ℕ) (ks xs : List (List ℕ)) → list_any (is_at (row_cmp x)) ks ≡ b → (IsIn s (filter (lacks ks) xs) → IsIn s xs × (¬ IsIn s ks)) → IsIn s (cond (not b) (x ∷ filter (lacks ks) xs) (filter (lacks ks) xs)) → IsIn s (x ∷ xs) × (¬ IsIn s ks)
-lacks_choice true s x ks xs e rest p = let r = rest p in (inr r.0, r.1)
-lacks_choice false s x ks xs e rest (inl q) = (inl q, λ m. (let t : list_any (is_at (row_cmp x)) ks ≡ true = row_any x ks (let P : List ℕ → Type 0 = λ y. IsIn y ks in subst P q m) in cc))
-lacks_choice false s x ks xs e rest (inr p) = let r = rest p in (inr r.0, r.1)
-
-lacking_of : (s : List ℕ) (ks xs : List (List ℕ)) → IsIn s (filter (lacks ks) xs) → IsIn s xs × (¬ IsIn s ks)
-lacking_of s ks [] p = absurd p
-lacking_of s ks (x ∷ xs) p = lacks_choice (list_any (is_at (row_cmp x)) ks) s x ks xs refl (lacking_of s ks xs) p
-
-found_choice : (b : Bool) (s x : List ℕ) (ks xs : List (List ℕ)) → list_any (is_at (row_cmp x)) ks ≡ b → (¬ IsIn s ks) → (IsIn s xs → IsIn s (filter (lacks ks) xs)) → IsIn s (x ∷ xs) → IsIn s (cond (not b) (x ∷ filter (lacks ks) xs) (filter (lacks ks) xs))
-found_choice true s x ks xs e out rest (inl q) = absurd (out (let P : List ℕ → Type 0 = λ y. IsIn y ks in subst P (sym q) (any_row x ks e)))
-found_choice true s x ks xs e out rest (inr p) = rest p
-found_choice false s x ks xs e out rest (inl q) = inl q
-found_choice false s x ks xs e out rest (inr p) = inr (rest p)
-
-of_lacking : (s : List ℕ) (ks xs : List (List ℕ)) → (¬ IsIn s ks) → IsIn s xs → IsIn s (filter (lacks ks) xs)
-of_lacking s ks [] out p = absurd p
-of_lacking s ks (x ∷ xs) out p = found_choice (list_any (is_at (row_cmp x)) ks) s x ks xs refl out (of_lacking s ks xs out) p
-
-pub lacking_members : (ks xs found : List (List ℕ)) → found ≡ filter (lacks ks) xs → (s : List ℕ) → IsIn s found ↔ (IsIn s xs × (¬ IsIn s ks))
-lacking_members ks xs found is s =
-    let P : List (List ℕ) → Type 0 = λ l. IsIn s l in (
-      (λ p. lacking_of s ks xs (subst P is p)),
-      (λ h. subst P (sym is) (of_lacking s ks xs h.1 h.0)),
-    )
 
 -- rows that are taken out
 
@@ -118,36 +88,64 @@ without_more xs ys old new i k l e h is ordered =
 pub without_all : (xs ys zs : List (List ℕ)) (i : ℕ) → length ys ≤ i → IsWithout xs (take i ys) zs → IsWithout xs ys zs
 without_all xs ys zs i l h = let W : List (List ℕ) → Type 0 = λ us. IsWithout xs us zs in subst W (take_all i ys l) h
 
-of_take : (s : List ℕ) (n : ℕ) (xs : List (List ℕ)) → IsIn s (take n xs) → IsIn s xs
-of_take s zero xs p = absurd p
-of_take s (suc n) [] p = absurd p
-of_take s (suc n) (x ∷ xs) (inl e) = inl e
-of_take s (suc n) (x ∷ xs) (inr p) = inr (of_take s n xs p)
-
--- rows that were not there, put in as far as memory went and taken out again, leave what was there
-pub as_before : (old between new rows missing : List (List ℕ)) (n : ℕ) → AreSorted old → ((s : List ℕ) → IsIn s missing ↔ (IsIn s rows × (¬ IsIn s old))) → IsUnion old (take n missing) between → IsWithout between missing new → new ≡ old
-as_before old between new rows missing n sorted these some without =
+-- rows that were put in and taken out again leave what was there
+pub as_before : (old between new added : List (List ℕ)) → AreSorted old → IsGrownBy old added between → IsWithout between added new → new ≡ old
+as_before old between new added sorted grown without =
     same_sorted new old without.sorted sorted
-    (λ s p. let q = (without.members s).0 p in elim ((some.members s).0 q.0) [ inl a ↦ a | inr m ↦ absurd (q.1 (of_take s n missing m)) ])
-    (λ s p. (without.members s).1 ((some.members s).1 (inl p), λ m. ((these s).0 m).1 p))
+    (λ s p. let q = (without.members s).0 p in elim ((grown.whole.members s).0 q.0) [ inl a ↦ a | inr m ↦ absurd (q.1 m) ])
+    (λ s p. (without.members s).1 ((grown.whole.members s).1 (inl p), λ m. grown.new s m p))
 
--- a row is in a list or it is not
-known_choice : (b : Bool) (s : List ℕ) (ks : List (List ℕ)) → list_any (is_at (row_cmp s)) ks ≡ b → IsIn s ks ⊎ (¬ IsIn s ks)
-known_choice true s ks e = inl (any_row s ks e)
-known_choice false s ks e = inr (λ p. (let t : list_any (is_at (row_cmp s)) ks ≡ true = row_any s ks p in cc))
+-- WHAT IS PUT IN, ONE ROW AFTER ANOTHER
 
--- rows that were not there, all put in, make the rows that are there or are added
-pub all_in : (old new rows missing : List (List ℕ)) → ((s : List ℕ) → IsIn s missing ↔ (IsIn s rows × (¬ IsIn s old))) → IsUnion old missing new → IsUnion old rows new
-all_in old new rows missing these h = record {
+-- Of some rows the last ones are left; those that were not there are added to what there was, and that is what there is now.
+pub record ArePutIn (old rows left added now : List (List ℕ)) : Type 0 where
+  pub grown : IsGrownBy old added now
+  pub rest : (all : List (List ℕ)) → IsUnion now left all → IsUnion old rows all
+
+pub none_put_in : (old rows : List (List ℕ)) → ArePutIn old rows rows [] old
+none_put_in old rows = record { grown = record { whole = union_none old; new = λ s p. absurd p }; rest = λ all h. h }
+
+-- the next row, as it is put in
+next_left : (now next left all : List (List ℕ)) (k : List ℕ) → next ≡ insert_key row_cmp now k → IsUnion next left all → IsUnion now (k ∷ left) all
+next_left now next left all k is h = union_union (union_one now next k is) h
+
+-- one that was not there
+pub new_put_in : (old rows left added more now next : List (List ℕ)) (k : List ℕ) → ArePutIn old rows (k ∷ left) added now → list_any (is_at (row_cmp k)) now ≡ false → more ≡ added ++ k ∷ [] → next ≡ insert_key row_cmp now k →
+    ArePutIn old rows left more next
+new_put_in old rows left added more now next k h lacks push is =
+    let G : List (List ℕ) → Type 0 = λ us. IsGrownBy old us next in
+    record {
+      grown = subst G (sym push) (record {
+        whole = union_union h.grown.whole (union_one now next k is);
+        new = λ s p q. elim (of_push s added k p) [
+          | inl a ↦ h.grown.new s a q
+          | inr e ↦ (let t : list_any (is_at (row_cmp k)) now ≡ true = row_any k now ((h.grown.whole.members k).1 (inl (let P : List ℕ → Type 0 = λ y. IsIn y old in subst P e q))) in cc)
+        ];
+      });
+      rest = λ all u. h.rest all (next_left now next left all k is u);
+    }
+
+-- one that was there
+known_left : (now left all : List (List ℕ)) (k : List ℕ) → IsIn k now → IsUnion now left all → IsUnion now (k ∷ left) all
+known_left now left all k there h = record {
   members = λ s. (
-    (λ p. elim ((h.members s).0 p) [ inl a ↦ inl a | inr m ↦ inr ((these s).0 m).0 ]),
+    (λ p. elim ((h.members s).0 p) [ inl a ↦ inl a | inr b ↦ inr (inr b) ]),
     (λ q. elim q [
       | inl a ↦ (h.members s).1 (inl a)
-      | inr r ↦ elim (known_choice (list_any (is_at (row_cmp s)) old) s old refl) [ inl a ↦ (h.members s).1 (inl a) | inr n ↦ (h.members s).1 (inr ((these s).1 (r, n))) ]
+      | inr b ↦ elim b [ inl e ↦ (h.members s).1 (inl (let P : List ℕ → Type 0 = λ y. IsIn y now in subst P (sym e) there)) | inr m ↦ (h.members s).1 (inr m) ]
     ]),
   );
   sorted = h.sorted;
 }
+
+pub old_put_in : (old rows left added now next : List (List ℕ)) (k : List ℕ) → ArePutIn old rows (k ∷ left) added now → list_any (is_at (row_cmp k)) now ≡ true → next ≡ now → ArePutIn old rows left added next
+old_put_in old rows left added now next k h has same =
+    let P : List (List ℕ) → Type 0 = λ us. ArePutIn old rows left added us in
+    subst P (sym same) (record { grown = h.grown; rest = λ all u. h.rest all (known_left now left all k (any_row k now has) u) })
+
+-- all of them
+pub all_put_in : (old rows left added now : List (List ℕ)) → ArePutIn old rows left added now → left ≡ [] → IsUnion old rows now
+all_put_in old rows left added now h e = h.rest now (let U : List (List ℕ) → Type 0 = λ us. IsUnion now us now in subst U (sym e) (union_none now))
 
 -- a row that comes behind the first ones, at its place
 
@@ -170,8 +168,3 @@ placed o k x ks i l e is so_far =
 
 pub placed_last : (k : List ℕ) (ks : List (List ℕ)) (i : ℕ) → length ks ≤ i → insert_key row_cmp ks k ≡ take i ks ++ insert_key row_cmp (drop i ks) k → insert_key row_cmp ks k ≡ ks ++ k ∷ []
 placed_last k ks i l so_far = so_far ∙ ap (λ ys. ys ++ insert_key row_cmp (drop i ks) k) (take_all i ks l) ∙ ap (λ ys. ks ++ insert_key row_cmp ys k) (drop_all i ks l)
-
--- what holds anyway, holds where there is an error
-pub on_err : {X E P : Type 0} (r : Result X E) → P → OnErr r P
-on_err (Ok x) p = tt
-on_err (Err e) p = p

@@ -14,6 +14,11 @@ pub record IsUnion (xs ys zs : List (List ℕ)) : Type 0 where
   pub members : (s : List ℕ) → IsIn s zs ↔ (IsIn s xs ⊎ IsIn s ys)
   pub sorted : AreSorted xs → AreSorted zs
 
+-- zs has what xs has, and ys, of which xs has none
+pub record IsGrownBy (xs ys zs : List (List ℕ)) : Type 0 where
+  pub whole : IsUnion xs ys zs
+  pub new : (s : List ℕ) → IsIn s ys → ¬ IsIn s xs
+
 -- zs has what xs has and ys hasn't, and is in order
 pub record IsWithout (xs ys zs : List (List ℕ)) : Type 0 where
   pub members : (s : List ℕ) → IsIn s zs ↔ (IsIn s xs × (¬ IsIn s ys))

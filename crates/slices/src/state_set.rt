@@ -1,8 +1,7 @@
 //! Sets of final states that grow by all of some rows, or not at all.
 
-ghost use Rattle.std.specs.Prelude.{◌≡◌, ◌↔◌, List, ℕ, take, IfOk, OnOk, OnErr};
-ghost use Rattle.listings.specs.Lists.{IsIn};
-ghost use Rattle.slices.specs.Sums.{IsUnion, IsWithout};
+ghost use Rattle.std.specs.Prelude.{◌≡◌, [], map, OnOk, OnErr};
+ghost use Rattle.slices.specs.Sums.{IsUnion, IsGrownBy, IsWithout};
 ghost use Rattle.slices.specs.Verdicts.{AreSorted};
 
 use crate::row::Row;
@@ -19,47 +18,50 @@ pub(crate) fn add_rows(
     ensures added { OnOk result (IsUnion set.old.keys rows.now.keys set.new.keys) }
     ensures same { OnErr result (set.new.keys ≡ set.old.keys) }
 {
-    let missing = missing(alloc, set, rows)?;
-    match insert_each(set, &missing) {
+    let mut added = Vec::new(alloc);
+    match insert_each(set, rows, &mut added) {
         Ok(()) => Ok(()),
         Err(AllocError) => {
-            remove_each(set, &missing);
+            remove_each(set, &added);
             Err(AllocError)
         }
     }
 }
 
-// The rows that are not in the set.
-fn missing(alloc: Global, set: &BTreeSet<Row>, rows: &BTreeSet<Row>) -> Result<Vec<Row>, AllocError>
-    ensures { IfOk result
-        (λ v. (s : List ℕ) → IsIn s v.items ↔ (IsIn s rows.now.keys × (¬ IsIn s set.now.keys))) }
+/// Puts rows in, one after another, and notes those that were not there. Where memory runs out, those that are noted are in.
+fn insert_each<'r>(
+    set: &mut BTreeSet<Row>,
+    rows: &'r BTreeSet<Row>,
+    added: &mut Vec<&'r Row>,
+) -> Result<(), AllocError>
+    requires { added.old.items ≡ [] }
+    ensures all { OnOk result (IsUnion set.old.keys rows.now.keys set.new.keys) }
+    ensures some { OnErr result (IsGrownBy set.old.keys (map (λ row. row.now) added.new.items) set.new.keys) }
 {
-    let mut missing = Vec::new(alloc);
+    // Behind a row that was there another one often comes that is: it is looked up before it is copied.
+    let mut was_there = true;
     for row in rows {
-        if !set.contains(row) {
-            missing.push(row.copy()?)?;
+        if was_there && set.contains(row) {
+            continue;
         }
-    }
-    Ok(missing)
-}
-
-// Puts rows in, one after another. Where memory runs out, some of them are in.
-fn insert_each(set: &mut BTreeSet<Row>, rows: &[Row]) -> Result<(), AllocError>
-    ensures all { OnOk result (IsUnion set.old.keys rows.now set.new.keys) }
-    ensures some { OnErr result ((n : ℕ) × IsUnion set.old.keys (take n rows.now) set.new.keys) }
-{
-    for row in rows {
-        set.insert(row.copy()?)?;
+        added.try_reserve(1)?;
+        was_there = !set.insert(row.copy()?)?;
+        if !was_there {
+            match added.push(row) {
+                Ok(()) => {}
+                Err(_) => unreachable!(),
+            }
+        }
     }
     Ok(())
 }
 
-// Takes rows out.
-fn remove_each(set: &mut BTreeSet<Row>, rows: &[Row])
+/// Takes rows out.
+fn remove_each(set: &mut BTreeSet<Row>, rows: &[&Row])
     requires { AreSorted set.old.keys }
-    ensures { IsWithout set.old.keys rows.now set.new.keys }
+    ensures { IsWithout set.old.keys (map (λ row. row.now) rows.now) set.new.keys }
 {
     for row in rows {
-        set.remove(row);
+        set.remove(*row);
     }
 }

@@ -1,6 +1,6 @@
-use Rattle.std.proofs.Common.{take}
-use Rattle.slices.specs.Sums.{IsUnion}
+use Rattle.std.proofs.Common.{map}
+use Rattle.slices.proofs.Sets.{ArePutIn}
 use Rattle.slices.proofs.state_set.insert_each.Given as goal
 
 abbrev pub invariant-loop-row : goal.invariant-loop-row
-invariant-loop-row l = IsUnion l.initial.set.keys (take l.row-index l.rows) l.set.keys
+invariant-loop-row l = ArePutIn l.initial.set.keys l.rows.keys l.row-iterator (map (λ row. row.now) l.added.items) l.set.keys
