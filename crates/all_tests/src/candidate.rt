@@ -3,6 +3,7 @@
 mod blocks;
 mod executions;
 mod growth;
+mod opened;
 mod runs;
 pub mod states;
 mod texts;

@@ -6,6 +6,7 @@ mod growth;
 mod judging;
 pub mod loading;
 mod model;
+mod opened;
 mod orders;
 mod refuting;
 mod syntax;

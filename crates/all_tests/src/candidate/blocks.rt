@@ -7,7 +7,7 @@ use events::{Cut, EventId, Graph};
 use std::alloc::{AllocError, Global};
 
 /// Three later writes of x and one of y, and a read of each: 48 candidates for each choice of runs.
-const WRITES_AND_READS: &str = "C B\n{}\n\
+pub const WRITES_AND_READS: &str = "C B\n{}\n\
 P0 (atomic_int* x, atomic_int* y) { atomic_store_explicit(x, 1, memory_order_relaxed); atomic_store_explicit(x, 2, memory_order_relaxed); int r0 = atomic_load_explicit(y, memory_order_relaxed); }\n\
 P1 (atomic_int* x, atomic_int* y) { atomic_store_explicit(x, 3, memory_order_relaxed); atomic_store_explicit(y, 1, memory_order_relaxed); int r1 = atomic_load_explicit(x, memory_order_relaxed); }\n\
 exists (0:r0=1)\n";
@@ -36,7 +36,8 @@ fn push_event(text: &mut String, event: EventId) -> Result<(), AllocError> {
     }
 }
 
-fn push_events(text: &mut String, head: &str, events: &[EventId]) -> Result<(), AllocError> {
+/// Adds a head, and these events.
+pub fn push_events(text: &mut String, head: &str, events: &[EventId]) -> Result<(), AllocError> {
     text.push_str(head)?;
     for event in events {
         push_event(text, *event)?;

@@ -1,6 +1,7 @@
 //! What models say of executions that are made by hand.
 
 use crate::cat::loading::is_so;
+use crate::cat::opened::{OPENED, Opened};
 use crate::cat::texts::RC11;
 use crate::graphs::{ORDERS, STORE_BUFFERING, graph};
 use crate::rows::{all_hold, meant};
@@ -21,6 +22,9 @@ pub enum Fact<'a> {
     Says(Order, bool, &'a str),
     /// Of a partial message passing of this order it is known, or isn't, that its model forbids all that goes on from it.
     Refutes(Order, bool),
+    /// Of two writes of each location of this order it is known in these cases that its model allows them wherever the open ones stand, and raises
+    /// these flags.
+    Opens(Order, Opened, &'a str),
     /// Of its model it is known, or isn't, that it says the same of executions that differ in their coherence orders alone.
     Orderless(bool),
     /// The copy of its model is equal to a second model of it.
@@ -33,6 +37,15 @@ pub enum Fact<'a> {
     Put(&'a str),
 }
 
+/// What is to be known of open writes of this order, by the word of the cases and those of the flags.
+fn opened_fact(order: Order, words: &str) -> Fact<'_> {
+    let (word, flags) = words.split_once(' ').unwrap_or((words, ""));
+    match meant(OPENED, word) {
+        Some(opened) => Fact::Opens(order, opened, flags),
+        None => Fact::Answer(words),
+    }
+}
+
 /// What is to hold of a model, in words without an order.
 fn fact_of_order(order: Order, words: &str) -> Fact<'_> {
     let (word, rest) = words.split_once(' ').unwrap_or((words, ""));
@@ -41,6 +54,7 @@ fn fact_of_order(order: Order, words: &str) -> Fact<'_> {
         "forbids" => Fact::Says(order, false, rest),
         "refuted" => Fact::Refutes(order, true),
         "open" => Fact::Refutes(order, false),
+        "opened" => opened_fact(order, rest),
         _ => Fact::Answer(words),
     }
 }
@@ -77,7 +91,7 @@ fn is_among(names: &[Name], wanted: &str) -> bool {
 }
 
 /// Whether these are the names, in any order.
-fn are_names(names: &[Name], wanted: &str) -> bool {
+pub fn are_names(names: &[Name], wanted: &str) -> bool {
     for name in wanted.split_whitespace() {
         if !is_among(names, name) {
             return false;

@@ -21,7 +21,7 @@ co i0 0.0
 co i1 0.1";
 
 /// Whether an evaluator that forgets the runs of another execution judges this one as it is judged alone.
-fn judges_another(
+pub fn judges_another(
     alloc: Global,
     model: &Model,
     evaluator: &mut Evaluator<'_>,

@@ -57,7 +57,7 @@ pub fn expanded(alloc: Global, text: &str) -> Result<String, AllocError> {
 /// Texts that rows name, beside those of examples/. `SB` is store buffering as it stands in the rows of scripts, `store buffering` the same on
 /// fewer lines, with a fence between the two accesses of each thread in `store buffering with fences`. `location by location` is a model of each
 /// location alone, `without atomicity` one that forgets that an exchange is one step, and `weakness` has a flag on what `rc11.cat` allows beyond
-/// sequential consistency. `script_first` is a session's put, ask, claim, return and poll, and `256 jobs` what is answered to the first asks.
+/// sequential consistency. `four pairs` are four threads of a store to x and one to y each: 4! orders of each location, of which 3! end in each store. `script_first` is a session's put, ask, claim, return and poll, and `256 jobs` what is answered to the first asks.
 const NAMED: &str = "
 %SB
 C SB
@@ -132,6 +132,37 @@ Witnesses
 Positive: 1 Negative: 15
 Condition exists (2:r0=1 /\\ 2:r1=0 /\\ 3:r0=1 /\\ 3:r1=0)
 Observation IRIW Sometimes 1 15
+%four pairs
+C PAIRS {}
+P0 (atomic_int* x, atomic_int* y) { atomic_store_explicit(x, 1, memory_order_relaxed); atomic_store_explicit(y, 1, memory_order_relaxed); }
+P1 (atomic_int* x, atomic_int* y) { atomic_store_explicit(x, 2, memory_order_relaxed); atomic_store_explicit(y, 2, memory_order_relaxed); }
+P2 (atomic_int* x, atomic_int* y) { atomic_store_explicit(x, 3, memory_order_relaxed); atomic_store_explicit(y, 3, memory_order_relaxed); }
+P3 (atomic_int* x, atomic_int* y) { atomic_store_explicit(x, 4, memory_order_relaxed); atomic_store_explicit(y, 4, memory_order_relaxed); }
+exists (x=1 /\\ y=2)
+%four pairs summary
+Test PAIRS Allowed
+States 16
+[x]=1; [y]=1;
+[x]=1; [y]=2;
+[x]=1; [y]=3;
+[x]=1; [y]=4;
+[x]=2; [y]=1;
+[x]=2; [y]=2;
+[x]=2; [y]=3;
+[x]=2; [y]=4;
+[x]=3; [y]=1;
+[x]=3; [y]=2;
+[x]=3; [y]=3;
+[x]=3; [y]=4;
+[x]=4; [y]=1;
+[x]=4; [y]=2;
+[x]=4; [y]=3;
+[x]=4; [y]=4;
+Ok
+Witnesses
+Positive: 36 Negative: 540
+Condition exists ([x]=1 /\\ [y]=2)
+Observation PAIRS Sometimes 36 540
 %256 jobs
 job 1
 job 2

@@ -61,6 +61,20 @@ job 1
 worked 16 0 0
 verdict IRIW 1 rc11.cat 0
 %IRIW summary%finish ok 43
+=== two_workers: two workers, and executions that are allowed whatever the places of some writes
+0 test
+%four pairs%.
+0 ask PAIRS rc11.cat
+work
+0 poll 1
++++ serve workers 2
+---
+ok
+version PAIRS 1
+job 1
+worked 3 0 0
+verdict PAIRS 1 rc11.cat 0
+%four pairs summary%finish ok 11
 === eight_workers: eight workers over a closed book
 0 close
 work

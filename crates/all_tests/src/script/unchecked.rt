@@ -10,7 +10,7 @@ use std::alloc::{AllocError, Global};
 /// Executions that differ in their orders alone: n! orders of n stores, of which (n - 1)! end in each (`orders_counted_together`). So under
 /// models: the loads read in four ways, of which one is a cycle, and three stores have six orders, of which two end in each. The last model of
 /// two loads and three stores looks at the orders: the stores are ordered as they stand. And tests in two, in five, in seven and in more
-/// slices than there are numbers (`one_in_several_slices`).
+/// slices than there are numbers (`one_in_several_slices`). All orders of `open_writes` are allowed under models that look at them.
 pub const ROWS: &str = "
 === whole_summaries: sb_relaxed
 %SB%
@@ -117,7 +117,18 @@ C W12 {} P0 (atomic_int* x) {
 ---
 ...
 Observation W12 Sometimes 39916800 439084800
-=== orders_counted_together_under_a_model: two_loads_and_three_stores, 1
+=== open_writes: four_pairs
+%four pairs%
++++ one
+include \"rc11.cat\"
+acyclic po | rf irreflexive co
+---
+%four pairs summary%=== open_writes: four_pairs, in_5_slices
+%four pairs%
++++ one in 5 slices
+include \"rc11.cat\"
+---
+%four pairs summary%=== orders_counted_together_under_a_model: two_loads_and_three_stores, 1
 C LB+W3 {} P0 (atomic_int* x, atomic_int* y) {
   int r0 = atomic_load(y); atomic_store(x, 1);
 } P1 (atomic_int* x, atomic_int* y) {
