@@ -1,18 +1,19 @@
 -- What is chosen by number, digit by digit.
-use Rattle.std.proofs.Common.{◌≡◌, ℕ, zero, suc, ◌+◌, ◌-◌, ◌*◌, ◌/◌, ◌%◌, ◌<◌, ◌≤◌, ◌^◌, List, [], ◌∷◌, ◌++◌, length, drop, get_or, nat_lt, if◌then◌else◌, Bool, true, unwrap_or, append_assoc, append-nil, refl, sym, ◌∙◌, ap, subst, inl, inr, arith}
+use Rattle.std.proofs.Common.{◌≡◌, ℕ, zero, suc, ◌+◌, ◌-◌, ◌*◌, ◌/◌, ◌%◌, ◌<◌, ◌≤◌, ◌^◌, List, [], ◌∷◌, ◌++◌, length, drop, get_or, nat_lt, if◌then◌else◌, Bool, true, false, unwrap_or, append_assoc, append-nil, refl, sym, ◌∙◌, ap, subst, inl, inr, arith}
 use Rattle.std.specs.Prelude.{slice_get, ◌↔◌}
 use Rattle.std.proofs.Math.ListN.{drop_of_length-le}
 use Rattle.std.proofs.Math.Seq.{drop-cons}
-use Rattle.std.proofs.Math.Nat.{mul_assoc, mul_comm, one-mul, mul-one, eq-zero-or-pos, mul-le-mul_right, mul-le-mul_left}
+use Rattle.std.proofs.Math.Nat.{mul_assoc, mul_comm, one-mul, mul-one, mul-le-mul_right, mul-le-mul_left}
 use Rattle.std.proofs.lemmas.Bool.{lt-ltb, le-ltb, cases_lt}
 use Rattle.listings.specs.Lists.{product_by}
 use Rattle.listings.specs.Numbered.{digits}
 use Rattle.candidates.specs.Blocks.{placings}
 use Rattle.slices.specs.Finals.{last_or}
 use Rattle.events.specs.declared.event.EventId.{EventId}
-use Rattle.slices.specs.Ways.{WaysValue, size_of_ways, count_of_ways, weight_of_way, way, share, rest, weight_by}
+use Rattle.slices.specs.declared.ways.Shares.{Shares}
+use Rattle.slices.specs.Ways.{AreShares, IsSound, WaysValue, size_of_ways, count_of_ways, weight_of_way, way, share, rest, weight_by}
 use Rattle.slices.proofs.Opened.{placings_more}
-use Rattle.slices.proofs.Picked.{some_placings, weight_some, next_below}
+use Rattle.slices.proofs.Picked.{some_placings, next_below}
 
 placings_next : (n k : ℕ) → k < n → placings n k ≤ placings n (suc k)
 placings_next n k l =
@@ -105,11 +106,6 @@ dropped ws i w l e =
     let next : suc i ≡ i + 1 = omega arith in
     drop-cons ws i w l ∙ ap (λ x. x ∷ drop (suc i) ws) (sym e) ∙ ap (λ n. w ∷ drop n ws) next
 
-pub fits_one : (ws : List WaysValue) (number i left weight : ℕ) (lasts : List EventId) (w : WaysValue) → Chosen ws number i left weight lasts → i < length ws → w ≡ get_or ws i w → size_of_ways w ≤ 2 ^ 32
-fits_one ws number i left weight lasts w h l e =
-    let P : List WaysValue → Type 0 = λ xs. weight * product_by size_of_ways xs ≤ 2 ^ 32 in
-    some_times weight (size_of_ways w) (product_by size_of_ways (drop (i + 1) ws)) (2 ^ 32) h.some (product_positive (drop (i + 1) ws)) (subst P (dropped ws i w l e) h.most)
-
 pub fits_both : (ws : List WaysValue) (number i left weight : ℕ) (lasts : List EventId) (w : WaysValue) (k : ℕ) → Chosen ws number i left weight lasts → i < length ws → w ≡ get_or ws i w → k ≤ size_of_ways w → weight * k ≤ 2 ^ 32
 fits_both ws number i left weight lasts w k h l e m =
     let P : List WaysValue → Type 0 = λ xs. weight * product_by size_of_ways xs ≤ 2 ^ 32 in
@@ -162,18 +158,39 @@ chosen_all ws number i left w vs h l =
       (λ none. (b.0 (omega (arith, none)), sym (mul-one w) ∙ subst W e h.weight)),
     )
 
--- the share of the write with some place among those that may stand last
-pub weight_is : (w : WaysValue) (share' place : ℕ) → w.seen ≡ true → w.opened ≤ length w.writes - 1 → (w.opened ≡ 0 → ⊥) → share' ≡ placings (length w.writes - 1) (w.opened - 1) →
-    (place < w.opened → (share' ≡ weight_of_way w place) × (share' ≤ size_of_ways w) × (1 ≤ share')) ×
-    (w.opened ≤ place → (share' * (length w.writes - w.opened) ≡ weight_of_way w place) × (share' * (length w.writes - w.opened) ≤ size_of_ways w) × (1 ≤ share' * (length w.writes - w.opened)))
-weight_is w s place seen l none e =
+-- what is told of the write with some place among those that may stand last
+pub weight_told : (w : WaysValue) (place : ℕ) (s : Shares) → AreShares (length w.writes) w.opened w.seen s → (place < w.opened → s.opened ≡ weight_of_way w place) × (w.opened ≤ place → s.other ≡ weight_of_way w place)
+weight_told w place s h =
     let n : ℕ = length w.writes in
     let k : ℕ = w.opened in
-    let some : 1 ≤ k = elim (eq-zero-or-pos k) [ inl z ↦ absurd (none z) | inr p ↦ p ] in
-    let r = rest_is n k s some l e in
-    let C : Bool → ℕ = λ b. if b then share n k else rest n k in
-    let S : weight_of_way w place ≡ C (nat_lt place k) = ap (λ b. if b then C (nat_lt place k) else size_of_ways w) seen in
-    let W : ℕ → Type 0 = λ x. 1 ≤ x in (
-      (λ u. (let is : s ≡ weight_of_way w place = r.0 ∙ ap C (sym (lt-ltb place k u)) ∙ sym S in (is, r.3, subst W (sym is) (weight_some w place l)))),
-      (λ u. (let is : s * (n - k) ≡ weight_of_way w place = r.1 ∙ ap C (sym (le-ltb place k u)) ∙ sym S in (is, r.2, subst W (sym is) (weight_some w place l)))),
+    let W : Bool → ℕ = λ b. if w.seen then (if b then share n k else rest n k) else size_of_ways w in (
+      (λ u. h.opened (omega (arith, u)) ∙ sym (ap W (lt-ltb place k u))),
+      (λ u. h.other ∙ sym (ap W (le-ltb place k u))),
     )
+
+choice_most : (b : Bool) (x y m : ℕ) → x ≤ m → y ≤ m → (if b then x else y) ≤ m
+choice_most true x y m l u = l
+choice_most false x y m l u = u
+
+shares_most : (n k : ℕ) → k ≤ n - 1 → (share n k ≤ placings n k) × (rest n k ≤ placings n k)
+shares_most n zero l = (some_placings n 0, some_placings n 0)
+shares_most n (suc k) l =
+    let r = rest_is n (suc k) (placings (n - 1) (suc k - 1)) (omega arith) l refl in
+    (omega (arith, r.0, r.3), omega (arith, r.1, r.2))
+
+pub weight_most : (w : WaysValue) (c : ℕ) → IsSound w → weight_of_way w c ≤ size_of_ways w
+weight_most w c h =
+    let n : ℕ = length w.writes in
+    let k : ℕ = w.opened in
+    let m = shares_most n k h in
+    choice_most w.seen (if nat_lt c k then share n k else rest n k) (size_of_ways w) (size_of_ways w) (choice_most (nat_lt c k) (share n k) (rest n k) (size_of_ways w) m.0 m.1) (omega arith)
+
+-- one of some ways that are few is of few orders
+pub way_fits : (done : List WaysValue) (w : WaysValue) (behind : List WaysValue) (m : ℕ) → product_by size_of_ways (done ++ w ∷ behind) ≤ m → size_of_ways w ≤ m
+way_fits [] w behind m l =
+    let p : ℕ = size_of_ways w * product_by size_of_ways behind in
+    some_times 1 (size_of_ways w) (product_by size_of_ways behind) m (omega arith) (product_positive behind) (omega (arith, one-mul p, l))
+way_fits (x ∷ xs) w behind m l =
+    let p : ℕ = product_by size_of_ways (xs ++ w ∷ behind) in
+    let h : 1 * p ≤ size_of_ways x * p = mul-le-mul_right p (some_placings (length x.writes) x.opened) in
+    way_fits xs w behind m (omega (arith, h, one-mul p, l))

@@ -1,5 +1,5 @@
 -- The writes that stand last in some orders of a location, and in how many of them. No statement on what is found rests on this.
-use Rattle.std.specs.Prelude.{ℕ, zero, suc, ◌-◌, ◌*◌, ◌≤◌, ◌/◌, ◌%◌, ◌==◌, List, [], ◌∷◌, length, nat_lt, if◌then◌else◌, Bool, false}
+use Rattle.std.specs.Prelude.{◌≡◌, ◌<◌, ℕ, zero, suc, ◌-◌, ◌*◌, ◌≤◌, ◌/◌, ◌%◌, ◌==◌, List, [], ◌∷◌, length, nat_lt, if◌then◌else◌, Bool, false}
 use Rattle.std.specs.List.{list_any}
 use Rattle.std.proofs.Common.{get_or}
 use Rattle.events.specs.declared.event.EventId.{EventId}
@@ -8,6 +8,7 @@ use Rattle.events.specs.Executions.{GraphValue}
 use Rattle.candidates.specs.Blocks.{open_among, placings}
 use Rattle.candidates.specs.declared.open_orders.OpenOrders.{OpenOrders}
 use Rattle.slices.specs.declared.slot.Slot.{Slot}
+use Rattle.slices.specs.declared.ways.Shares.{Shares}
 use Rattle.slices.specs.declared.slot.Slot.TheVariants.{Register, Location}
 use Rattle.slices.specs.Finals.{last_or}
 
@@ -43,6 +44,11 @@ way w c = if w.seen then (if nat_lt c w.opened then get_or w.writes c w.initial 
 abbrev pub weight_by : {A : Type 0} → (A → ℕ) → (A → ℕ → ℕ) → List A → ℕ → ℕ
 weight_by count weight [] j = 1
 weight_by count weight (a ∷ as') j = weight a (j % count a) * weight_by count weight as' (j / count a)
+
+-- in how many of the orders of n writes, of which the first k have each place, one of these stands last, and the last of the others
+pub record AreShares (n k : ℕ) (seen : Bool) (s : Shares) : Type 0 where
+  pub opened : 0 < k → s.opened ≡ (if seen then share n k else placings n k)
+  pub other : s.other ≡ (if seen then rest n k else placings n k)
 
 -- a location whose opened writes are some of its writes, the last one not among them
 abbrev pub IsSound : WaysValue → Type 0

@@ -5,7 +5,7 @@ ghost use Rattle.listings.specs.Lists.{product_by};
 ghost use Rattle.listings.specs.Numbered.{digits};
 ghost use Rattle.candidates.specs.Blocks.{open_among, placings};
 ghost use Rattle.events.specs.declared.event.EventId.TheVariants.{Initial};
-ghost use Rattle.slices.specs.Ways.{count_of_ways, is_seen, openable, shown_way, shown_ways, size_of_ways, tail, way, weight_by, weight_of_way};
+ghost use Rattle.slices.specs.Ways.{AreShares, count_of_ways, is_seen, openable, shown_way, shown_ways, size_of_ways, tail, way, weight_by, weight_of_way};
 
 use crate::slot::{Slot, is_seen};
 use candidates::OpenOrders;
@@ -21,17 +21,18 @@ pub(crate) struct Ways<'g> {
     writes: &'g [EventId],
     opened: usize,
     seen: bool,
+    shares: Shares,
 }
 
 impl<'g> Model for Ways<'g> {
     ghost use Rattle.std.specs.Prelude.{◌≤◌, ◌-◌, length};
-    ghost use Rattle.slices.specs.Ways.{WaysValue};
+    ghost use Rattle.slices.specs.Ways.{AreShares, WaysValue};
 
     ghost Value = { WaysValue };
 
     ghost view = { λ w. record { initial = w.initial; writes = w.writes.now; opened = w.opened; seen = w.seen } };
 
-    ghost invariant = { λ w. w.opened ≤ length w.writes.now - 1 };
+    ghost invariant = { λ w. (w.opened ≤ length w.writes.now - 1) × AreShares (length w.writes.now) w.opened w.seen w.shares };
 }
 
 /// In how many ways the first `opened` of so many writes are placed among the others.
@@ -45,6 +46,41 @@ fn placings(writes: usize, opened: usize) -> u64
         count *= (writes - placed) as u64;
     }
     count
+}
+
+/// In how many of the orders each opened write stands last, and in how many the last of the others. Where the location isn't seen, both count all orders.
+#[derive(Clone, Copy)]
+struct Shares {
+    opened: u64,
+    other: u64,
+}
+
+impl Shares {
+    /// Those of so many writes, of which the first `opened` have each place.
+    fn of(writes: usize, opened: usize, seen: bool) -> Self
+        requires few { placings writes opened ≤ 2 ^ 32 }
+        requires within { opened ≤ writes - 1 }
+        ensures { AreShares writes opened seen result }
+    {
+        if !seen {
+            let all = placings(writes, opened);
+            return Shares {
+                opened: all,
+                other: all,
+            };
+        }
+        if opened == 0 {
+            return Shares {
+                opened: 1,
+                other: 1,
+            };
+        }
+        let share = placings(writes - 1, opened - 1);
+        Shares {
+            opened: share,
+            other: share * (writes - opened) as u64,
+        }
+    }
 }
 
 /// How many of so many writes are opened, where so many are free: of one that stands alone behind all others, none is.
@@ -69,6 +105,7 @@ fn tail(order: &[EventId]) -> &[EventId]
 impl<'g> Ways<'g> {
     /// The ways of a location's order, where these orders are open.
     fn of(location: usize, order: &'g [EventId], seen: bool, range: OpenOrders) -> Self
+        requires { size_of_ways (shown_way Initial (λ _. seen) range.unplaced.locations range.unplaced.writes location order.now) ≤ 2 ^ 32 }
         ensures { result ≡ shown_way Initial (λ _. seen) range.unplaced.locations range.unplaced.writes location order.entry.now }
     {
         let writes = tail(order);
@@ -79,6 +116,7 @@ impl<'g> Ways<'g> {
             writes,
             opened,
             seen,
+            shares: Shares::of(writes.len(), opened, seen),
         }
     }
 
@@ -94,22 +132,14 @@ impl<'g> Ways<'g> {
 
     /// In how many of the orders the write with this place among those that may stand last does.
     fn weight(&self, place: u64) -> u64
-        requires { size_of_ways self.now ≤ 2 ^ 32 }
         ensures weight { result ≡ weight_of_way self.now place }
         ensures most { result ≤ size_of_ways self.now }
         ensures some { 1 ≤ result }
     {
-        if !self.seen {
-            return placings(self.writes.len(), self.opened);
-        }
-        if self.opened == 0 {
-            return 1;
-        }
-        let share = placings(self.writes.len() - 1, self.opened - 1);
         if place < self.opened as u64 {
-            share
+            self.shares.opened
         } else {
-            share * (self.writes.len() - self.opened) as u64
+            self.shares.other
         }
     }
 
@@ -160,6 +190,7 @@ pub(crate) fn ways_of<'g>(
     graph: &'g Graph,
     range: OpenOrders,
 ) -> Result<Vec<Ways<'g>>, AllocError>
+    requires { product_by size_of_ways (shown_ways Initial (is_seen slots.now) range.unplaced.locations range.unplaced.writes 0 graph.now.co) ≤ 2 ^ 32 }
     ensures { IfOk result (λ v. v.items ≡ shown_ways Initial (is_seen slots.now) range.unplaced.locations range.unplaced.writes 0 graph.entry.now.co) }
 {
     let orders = graph.co();

@@ -1,6 +1,6 @@
 use Rattle.std.proofs.Common.{List, sym, subst, arith}
 use Rattle.events.specs.declared.event.EventId.{EventId}
-use Rattle.slices.proofs.Chosen.{Chosen, chosen_all, chosen_more, chosen_none, fits_one, fits_both}
+use Rattle.slices.proofs.Chosen.{Chosen, chosen_all, chosen_more, chosen_none, fits_both}
 use Rattle.slices.proofs.Picked.{count_some}
 use Rattle.slices.proofs.ways.choose.Goals as goal
 
@@ -14,9 +14,6 @@ nonzero_rem-place c = let some = count_some c.way-item.result in omega (arith, s
 
 pub nonzero_div-left : goal.nonzero_div-left
 nonzero_div-left c = let some = count_some c.way-item.result in omega (arith, some, c.count-count.ensures)
-
-pub weight-weight-requires : goal.weight-weight-requires
-weight-weight-requires c = fits_one c.args.ways.now c.args.number c.loop-way.way-index c.loop-way.left c.loop-way.weight c.loop-way.lasts.items c.way-item.result c.loop-way.invariant c.loop-way-test.true c.way-item.is
 
 pub overflow_mul-weight : goal.overflow_mul-weight
 overflow_mul-weight c =
