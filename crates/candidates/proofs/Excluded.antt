@@ -2,7 +2,7 @@
 use Rattle.std.proofs.Common.{◌≡◌, ℕ, zero, suc, ◌+◌, ◌-◌, ◌<◌, ◌≤◌, List, [], ◌∷◌, length, map, take, get_or, filter, refl, sym, ◌∙◌, ap, subst, inl, inr, arith, Bool, true, false, not, ◌==◌, None, ◌++◌, drop, bit_and, bit_or, bit_xor}
 use Rattle.std.specs.Int.{bit_at}
 use Rattle.std.specs.Prelude.{slice_index_or}
-use Rattle.std.proofs.lemmas.List.{get_or_default}
+use Rattle.std.proofs.lemmas.List.{get_or_default, get_or-take}
 use Rattle.std.proofs.lemmas.Bool.{and_parts, cases_Bool, cases_lt, eqb-true, eq-eqb, false≢true}
 use Rattle.events.specs.declared.event.Event.{Event}
 use Rattle.events.specs.declared.event.EventId.{EventId}
@@ -26,6 +26,7 @@ use Rattle.candidates.proofs.Needed.{each_at, each_many, either_bit, lacking, le
 use Rattle.candidates.proofs.Steps.{in_block, part_end}
 use Rattle.candidates.proofs.Grouping.{events_more, events_of, tallies_of}
 use Rattle.candidates.proofs.Descent.{IsDown, sizes_total, get_mapped}
+use Rattle.candidates.proofs.Kept.{short_take, within_take}
 use Rattle.candidates.proofs.Passed.{IsMarked, passed_at}
 
 filter_in : (p : Event → Bool) (es : List Event) (e : Event) → IsIn e es → p e ≡ true → IsIn e (filter p es)
@@ -198,11 +199,20 @@ passed_over s number rest left tally chosen runs more sizes marks d k are h e is
   λ m a c. none_marked s chosen runs more marks m are (passed_at (length s.init) (choices s.threads) number rest left tally chosen runs more sizes marks d k m h e is p a c),
 )
 
+-- What is at hand of the threads may be cut off.
+pub needs_cut : (init : List ℕ) (threads : List (List ThreadRun)) (all some : List ThreadNeeds) (m : ℕ) → AreAllNeeds init threads all → some ≡ take m all → AreAllNeeds init threads some
+needs_cut init threads all some m h is =
+    let long = ap (λ (ts : List ThreadNeeds). length ts) is in
+    record {
+      stores = h.stores;
+      few = omega (arith, long, within_take m all, h.few);
+      are = λ k t l e. (let short : k < m = omega (arith, l, long, short_take m all) in
+          h.are k t (omega (arith, l, long, within_take m all)) (e ∙ ap (λ ts. get_or ts k t) is ∙ get_or-take m all k t short));
+    }
+
 -- What the runs of a thread need.
-pub needs_here : (init : List ℕ) (threads : List (List ThreadRun)) (all : List ThreadNeeds) (k : ℕ) (e : ThreadNeeds) (h : AreAllNeeds init threads all) → k < length threads → HasNeeds init h.stores threads k (get_or all k e)
-needs_here init threads all k e h l =
-    let inside : k < length all = omega (arith, l, h.many) in
-    h.are k (get_or all k e) inside (get_or_default all k e (get_or all k e) inside)
+pub needs_here : (init : List ℕ) (threads : List (List ThreadRun)) (all : List ThreadNeeds) (k : ℕ) (e : ThreadNeeds) (h : AreAllNeeds init threads all) → k < length all → HasNeeds init h.stores threads k (get_or all k e)
+needs_here init threads all k e h l = h.are k (get_or all k e) l (get_or_default all k e (get_or all k e) l)
 
 pub as_many_needs : (init : List ℕ) (stores : List Store) (threads : List (List ThreadRun)) (k : ℕ) (t : ThreadNeeds) → HasNeeds init stores threads k t → length t.needs.items ≡ length (get_or threads k [])
 as_many_needs init stores threads k t has =
@@ -210,7 +220,7 @@ as_many_needs init stores threads k t has =
     each_many R (get_or threads k []) t.needs.items has.runs
 
 -- One run more is chosen.
-pub needed_on : (init : List ℕ) (threads : List (List ThreadRun)) (all : List ThreadNeeds) (k : ℕ) (e : ThreadNeeds) (before own both : Needs) (chosen longer : List ThreadRun) (d : ℕ) (h : AreAllNeeds init threads all) → k < length threads → d < length (get_or threads k []) → own ≡ get_or (get_or all k e).needs.items d own → AreNeeds init h.stores (events_of chosen) before → longer ≡ chosen ++ get_or (get_or threads k []) d empty_run ∷ []
+pub needed_on : (init : List ℕ) (threads : List (List ThreadRun)) (all : List ThreadNeeds) (k : ℕ) (e : ThreadNeeds) (before own both : Needs) (chosen longer : List ThreadRun) (d : ℕ) (h : AreAllNeeds init threads all) → k < length all → d < length (get_or threads k []) → own ≡ get_or (get_or all k e).needs.items d own → AreNeeds init h.stores (events_of chosen) before → longer ≡ chosen ++ get_or (get_or threads k []) d empty_run ∷ []
     → (AreNeeds init h.stores (events_of chosen) before → AreNeeds init h.stores (get_or (get_or threads k []) d empty_run).events own → AreNeeds init h.stores (events_of chosen ++ (get_or (get_or threads k []) d empty_run).events) both) → AreNeeds init h.stores (events_of longer) both
 needed_on init threads all k e before own both chosen longer d h l m o front more with =
     let t = get_or all k e in

@@ -12,12 +12,12 @@ use Rattle.candidates.specs.Levels.{AreLevels, IsLevel, Stands, places_of, tally
 use Rattle.candidates.proofs.Descent.{get_mapped}
 use Rattle.candidates.proofs.Grouping.{length_mapped}
 
-short_take : {X : Type 0} (m : ℕ) (xs : List X) → length (take m xs) ≤ m
+pub short_take : {X : Type 0} (m : ℕ) (xs : List X) → length (take m xs) ≤ m
 short_take zero xs = omega arith
 short_take (suc m) [] = omega arith
 short_take (suc m) (x ∷ xs) = omega (arith, short_take m xs)
 
-within_take : {X : Type 0} (m : ℕ) (xs : List X) → length (take m xs) ≤ length xs
+pub within_take : {X : Type 0} (m : ℕ) (xs : List X) → length (take m xs) ≤ length xs
 within_take zero xs = omega arith
 within_take (suc m) [] = omega arith
 within_take (suc m) (x ∷ xs) = omega (arith, within_take m xs)

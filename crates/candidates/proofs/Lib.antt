@@ -42,3 +42,4 @@ pub mod Renumbering
 pub mod Scenes
 pub mod Openings
 pub mod Within
+pub mod Reached

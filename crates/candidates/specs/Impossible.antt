@@ -61,9 +61,10 @@ pub record HasNeeds (init : List ℕ) (stores : List Store) (threads : List (Lis
   pub runs : ForEach (λ run n. AreNeeds init stores run.events n) (slice_index_or threads k []) t.needs.items
   pub later : AreGivenBy stores (drop (k + 1) threads) t.behind
 
+-- The same of the first threads.
 pub record AreAllNeeds (init : List ℕ) (threads : List (List ThreadRun)) (all : List ThreadNeeds) : Type 0 where
   pub stores : List Store
-  pub many : length all ≡ length threads
+  pub few : length all ≤ length threads
   pub are : (k : ℕ) (t : ThreadNeeds) → k < length all → t ≡ slice_index_or all k t → HasNeeds init stores threads k t
 
 -- Whether one of the words has a bit that the other hasn't.

@@ -232,7 +232,7 @@ fn each_needs(
     Ok(all)
 }
 
-/// What the runs of each thread read and write, and those behind it.
+/// What the runs of each thread read and write, and those behind it. The last threads are left out where none of them may refuse a run.
 pub(crate) fn all_needs(
     alloc: Global,
     init: &[u32],
@@ -241,7 +241,21 @@ pub(crate) fn all_needs(
     ensures { IfOk result (λ v. AreAllNeeds init.now threads.now v.items) }
 {
     let stores = all_stores(alloc, threads)?;
-    each_needs(alloc, init, &stores, threads)
+    let mut needs = each_needs(alloc, init, &stores, threads)?;
+    needs.truncate(count_asked(&needs));
+    Ok(needs)
+}
+
+/// How many of the first threads are to be asked: up to the last that may refuse a run. It only spares work: whatever it is, nothing is refused
+/// that may be in an execution.
+fn count_asked(all: &[ThreadNeeds]) -> usize {
+    let mut count = 0;
+    for thread in 0..all.len() {
+        if all[thread].may_refuse() {
+            count = thread + 1;
+        }
+    }
+    count
 }
 
 /// Whether one word has a bit that the other hasn't.
@@ -252,6 +266,16 @@ fn has_more(wants: u64, gives: u64) -> bool
 }
 
 impl ThreadNeeds {
+    /// Whether a run may be refused where the threads before refuse none: the thread has several, or its only one wants something. If it has only one,
+    /// which wants nothing, then all that this one writes was given before.
+    fn may_refuse(&self) -> bool {
+        match self.needs.as_slice() {
+            [] => false,
+            [one] => one.wants != 0,
+            _ => true,
+        }
+    }
+
     /// Those of the run at a place.
     pub(crate) fn at(&self, place: usize) -> Needs
         requires { place < length self.now.needs.items }

@@ -196,7 +196,7 @@ pub(crate) struct Threads<'a> {
 
 /// Where the candidate with this number is, and its runs. It goes down the threads: in each it takes the run that the number
 /// is in. Where that run is in no execution behind those so far, it passes over all candidates with them and with this one, and
-/// with the next that are in none either.
+/// with the next that are in none either. The last threads aren't asked where they refuse none.
 fn locate(
     alloc: Global,
     threads: &Threads<'_>,
@@ -231,16 +231,18 @@ fn locate(
             threads.init.len(),
             rest,
         )?;
-        let needs = &threads.needs[thread];
-        let level = &levels[thread];
-        let next = chosen.with(needs.at(choice.place));
-        let passed = needs.over(chosen, next, &level.sizes, choice.place);
-        if passed > 0 {
-            return Ok(Located::Until(number - choice.rest + passed));
+        if thread < threads.needs.len() {
+            let needs = &threads.needs[thread];
+            let level = &levels[thread];
+            let next = chosen.with(needs.at(choice.place));
+            let passed = needs.over(chosen, next, &level.sizes, choice.place);
+            if passed > 0 {
+                return Ok(Located::Until(number - choice.rest + passed));
+            }
+            chosen = next;
         }
         let change = place_run(runs, places, threads.runs, thread, choice.place)?;
         kept = kept.joined(thread, change);
-        chosen = next;
         rest = choice.rest;
     }
     runs.truncate(threads.runs.len());

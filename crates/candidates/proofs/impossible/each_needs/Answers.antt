@@ -28,6 +28,6 @@ returns-in_err-all c = IfOk-from_err c.from_residual.result _ c.from_residual.en
 pub returns : goal.returns
 returns c = record {
   stores = c.args.stores.now;
-  many = omega (arith, c.loop-thread.invariant.many, c.loop-thread.invariant.within, c.loop-thread-test.false);
+  few = omega (arith, c.loop-thread.invariant.many, c.loop-thread.invariant.within);
   are = c.loop-thread.invariant.are;
 }

@@ -2,23 +2,25 @@ use Rattle.std.proofs.Common.{ℕ, ◌≡◌, ◌∙◌, ◌+◌, ◌-◌, ◌<�
 use Rattle.std.proofs.lemmas.List.{drop_all, length-take-le, take-take, take_all}
 use Rattle.std.proofs.lemmas.Result.{IfOk-from_err}
 use Rattle.events.specs.Executions.{ThreadRun, empty_run}
-use Rattle.candidates.specs.Groups.{tally_of, sizes_of}
-use Rattle.candidates.specs.Candidates.{Choices, choices}
-use Rattle.candidates.specs.Impossible.{is_refused, IsPassed}
-use Rattle.listings.specs.Lists.{sum_of}
+use Rattle.candidates.specs.declared.impossible.Needs.{Needs}
+use Rattle.candidates.specs.Candidates.{choices}
+use Rattle.candidates.specs.Executions.{block}
+use Rattle.candidates.specs.Groups.{tally_of}
+use Rattle.candidates.specs.Impossible.{is_refused, AreNeeds, IsPassed}
+use Rattle.candidates.specs.Levels.{places_of, tally_to}
+use Rattle.candidates.specs.Located.{choices_by}
+use Rattle.candidates.specs.Outlines.{outline, outlines, writings, written}
+use Rattle.candidates.specs.Parts.{IsPart}
+use Rattle.candidates.proofs.Descent.{down_first, down_next, down_end}
 use Rattle.candidates.proofs.Excluded.{as_many_needs, needed_on, needs_here, passed_within, passed_over, refused}
 use Rattle.candidates.proofs.Grouping.{events_of, tallies_of}
-use Rattle.candidates.specs.Executions.{block}
-use Rattle.candidates.specs.Parts.{behind, IsPart}
+use Rattle.candidates.proofs.Kept.{as_many_groups, sizes_here, tally_there}
+use Rattle.candidates.proofs.Outlining.{as_many}
 use Rattle.candidates.proofs.Placed.{placed_cut}
 use Rattle.candidates.proofs.Puts.{cut_behind}
+use Rattle.candidates.proofs.Reached.{here_default, needs_fit, place_here_within, reached, room_here, size_here, sizes_at, tally_at}
 use Rattle.candidates.proofs.Staying.{shows_on, stay_all, stay_fewer, stay_first, stay_on}
-use Rattle.candidates.proofs.Outlining.{as_many}
-use Rattle.candidates.specs.Outlines.{outline, outlines, writings, written}
-use Rattle.candidates.proofs.Kept.{as_many_groups, same_default, sizes_here, tally_there}
-use Rattle.candidates.proofs.Steps.{part_end}
-use Rattle.candidates.proofs.Descent.{down_first, down_at, tallies_here, tallies_after, room_on, most_on, below_on, enter, run_within, down_next, down_end, sizes_length, sizes_total}
-use Rattle.candidates.specs.Levels.{places_of, tally_to}
+use Rattle.candidates.proofs.threads.locate.Goals.{then-thread-threads+else-passed-gt0, else-thread-threads}
 use Rattle.candidates.proofs.threads.locate.Goals as goal
 
 pub loop-thread-init : goal.loop-thread-init
@@ -33,192 +35,134 @@ loop-thread-init c = record {
   calm = λ h. (omega (arith, c.len.ensures, leb-true c.len.result (length c.args.threads.now.runs.now) h), refl);
   alike = λ h. (omega (arith, c.len.ensures, leb-true c.len.result (length c.args.threads.now.runs.now) h), refl);
   levels = c.requires.levels;
-  chosen = λ h. c.none-chosen.ensures c.args.threads.now.init.now h.stores;
+  chosen = λ h some. c.none-chosen.ensures c.args.threads.now.init.now h.stores;
 }
 
 pub place_run-requires-clause-place : goal.place_run-requires-clause-place
 place_run-requires-clause-place c =
-    let n = length c.args.threads.now.init.now in
-    let threads = c.args.threads.now.runs.now in
+    let t = c.args.threads.now in
     let at = c.loop-thread in
-    let l = c.loop-thread-test.true in
-    let choice = c.in_ok-choice.choice in
-    let sizes = sizes_of (tally_to n c.args.threads.now.groups.now (places_of at.levels.items) at.thread) (get_or c.args.threads.now.groups.now at.thread []) (drop (at.thread + 1) c.args.threads.now.groups.now) in
-    let e = enter n (choices threads) c.args.number at.rest (tally_to n c.args.threads.now.groups.now (places_of at.levels.items) at.thread) (take at.thread at.runs.items) threads c.args.threads.now.groups.now at.thread (get_or c.args.threads.now.groups.now at.thread []) (drop (at.thread + 1) c.args.threads.now.groups.now) sizes c.requires.threads.tallied l
-    (same_default c.args.threads.now.groups.now at.thread (as_many_groups (tallies_of n) c.args.threads.now.groups.now threads at.thread c.requires.threads.tallied l)) refl at.invariant.down refl in
-    run_within n (choices threads) c.args.number at.rest (tally_to n c.args.threads.now.groups.now (places_of at.levels.items) at.thread) (take at.thread at.runs.items) threads at.thread sizes choice.place e c.in_ok-choice.ensures.chosen.place
+    let chosen = take at.thread at.runs.items in
+    place_here_within t at.levels.items c.args.number at.thread at.rest c.in_ok-choice.choice.place chosen c.requires.threads c.loop-thread-test.true at.invariant.down c.in_ok-choice.ensures.chosen.place
 
 pub choose_run-requires-clause-room : goal.choose_run-requires-clause-room
 choose_run-requires-clause-room c =
-    let n = length c.args.threads.now.init.now in
-    let threads = c.args.threads.now.runs.now in
+    let t = c.args.threads.now in
     let at = c.loop-thread in
-    let l = c.loop-thread-test.true in
-    let d = down_at n (choices threads) c.args.number at.rest (tally_to n c.args.threads.now.groups.now (places_of at.levels.items) at.thread) (take at.thread at.runs.items) threads at.thread l at.invariant.down in
-    let here = tallies_here n threads c.args.threads.now.groups.now at.thread (get_or c.args.threads.now.groups.now at.thread []) c.requires.threads.tallied l (same_default c.args.threads.now.groups.now at.thread (as_many_groups (tallies_of n) c.args.threads.now.groups.now threads at.thread c.requires.threads.tallied l)) in
-    let after = tallies_after n threads c.args.threads.now.groups.now (drop (at.thread + 1) c.args.threads.now.groups.now) at.thread c.requires.threads.tallied refl in
-    room_on n (choices threads) c.args.number at.rest (tally_to n c.args.threads.now.groups.now (places_of at.levels.items) at.thread) (take at.thread at.runs.items) (get_or threads at.thread []) (drop (at.thread + 1) threads) (get_or c.args.threads.now.groups.now at.thread []) (drop (at.thread + 1) c.args.threads.now.groups.now) d here after
+    let chosen = take at.thread at.runs.items in
+    room_here t at.levels.items c.args.number at.thread at.rest chosen c.requires.threads c.loop-thread-test.true at.invariant.down
 
 pub choose_run-requires-clause-most : goal.choose_run-requires-clause-most
 choose_run-requires-clause-most c =
-    let n = length c.args.threads.now.init.now in
-    let threads = c.args.threads.now.runs.now in
+    let t = c.args.threads.now in
     let at = c.loop-thread in
-    let l = c.loop-thread-test.true in
-    let d = down_at n (choices threads) c.args.number at.rest (tally_to n c.args.threads.now.groups.now (places_of at.levels.items) at.thread) (take at.thread at.runs.items) threads at.thread l at.invariant.down in
-    let here = tallies_here n threads c.args.threads.now.groups.now at.thread (get_or c.args.threads.now.groups.now at.thread []) c.requires.threads.tallied l (same_default c.args.threads.now.groups.now at.thread (as_many_groups (tallies_of n) c.args.threads.now.groups.now threads at.thread c.requires.threads.tallied l)) in
-    let after = tallies_after n threads c.args.threads.now.groups.now (drop (at.thread + 1) c.args.threads.now.groups.now) at.thread c.requires.threads.tallied refl in
-    omega (arith, most_on n (choices threads) c.args.number at.rest (tally_to n c.args.threads.now.groups.now (places_of at.levels.items) at.thread) (take at.thread at.runs.items) (get_or threads at.thread []) (drop (at.thread + 1) threads) (get_or c.args.threads.now.groups.now at.thread []) (drop (at.thread + 1) c.args.threads.now.groups.now) d here after, c.requires.threads.most)
+    let chosen = take at.thread at.runs.items in
+    (size_here t at.levels.items c.args.number at.thread at.rest chosen c.requires.threads c.loop-thread-test.true at.invariant.down).0
 
 pub over-passed-requires-clause-place : goal.over-passed-requires-clause-place
 over-passed-requires-clause-place c =
-    let n = length c.args.threads.now.init.now in
-    let threads = c.args.threads.now.runs.now in
+    let t = c.args.threads.now in
     let at = c.loop-thread in
-    let l = c.loop-thread-test.true in
-    let runs = get_or threads at.thread [] in
-    let more = drop (at.thread + 1) threads in
-    let choice = c.in_ok-choice.choice in
-    let chosen = c.in_ok-choice.ensures.chosen in
-    let tally = tally_to n c.args.threads.now.groups.now (places_of at.levels.items) at.thread in
-    let sizes = sizes_of tally (get_or c.args.threads.now.groups.now at.thread []) (drop (at.thread + 1) c.args.threads.now.groups.now) in
-    let e = enter n (choices threads) c.args.number at.rest tally (take at.thread at.runs.items) threads c.args.threads.now.groups.now at.thread (get_or c.args.threads.now.groups.now at.thread []) (drop (at.thread + 1) c.args.threads.now.groups.now) sizes c.requires.threads.tallied l
-    (same_default c.args.threads.now.groups.now at.thread (as_many_groups (tallies_of n) c.args.threads.now.groups.now threads at.thread c.requires.threads.tallied l)) refl at.invariant.down refl in
-    let is : c.deref.result.now ≡ sizes = c.deref.ensures.value ∙ sizes_here n c.args.threads.now.groups.now c.choose_run.new.levels.items at.thread c.index-level.result.now tally c.choose_run.ensures.levels c.in_ok-choice.ensures.next.0 c.index-level.ensures c.in_ok-choice.ensures.same in
-    let P : List ℕ → Type 0 = λ ss. choice.place < length ss in
-    subst P (sym is) chosen.place
+    let chosen = take at.thread at.runs.items in
+    let is = c.deref.ensures.value ∙ sizes_here (length t.init.now) t.groups.now c.choose_run.new.levels.items at.thread c.index-level.result.now (tally_at t at.levels.items at.thread) c.choose_run.ensures.levels c.in_ok-choice.ensures.next.0 c.index-level.ensures c.in_ok-choice.ensures.same in
+    let P : List ℕ → Type 0 = λ ss. c.in_ok-choice.choice.place < length ss in
+    subst P (sym is) c.in_ok-choice.ensures.chosen.place
 
 pub over-passed-requires-clause-many : goal.over-passed-requires-clause-many
 over-passed-requires-clause-many c =
-    let n = length c.args.threads.now.init.now in
-    let threads = c.args.threads.now.runs.now in
+    let t = c.args.threads.now in
     let at = c.loop-thread in
-    let l = c.loop-thread-test.true in
-    let runs = get_or threads at.thread [] in
-    let more = drop (at.thread + 1) threads in
-    let choice = c.in_ok-choice.choice in
-    let chosen = c.in_ok-choice.ensures.chosen in
-    let tally = tally_to n c.args.threads.now.groups.now (places_of at.levels.items) at.thread in
-    let sizes = sizes_of tally (get_or c.args.threads.now.groups.now at.thread []) (drop (at.thread + 1) c.args.threads.now.groups.now) in
-    let e = enter n (choices threads) c.args.number at.rest tally (take at.thread at.runs.items) threads c.args.threads.now.groups.now at.thread (get_or c.args.threads.now.groups.now at.thread []) (drop (at.thread + 1) c.args.threads.now.groups.now) sizes c.requires.threads.tallied l
-    (same_default c.args.threads.now.groups.now at.thread (as_many_groups (tallies_of n) c.args.threads.now.groups.now threads at.thread c.requires.threads.tallied l)) refl at.invariant.down refl in
-    let is : c.deref.result.now ≡ sizes = c.deref.ensures.value ∙ sizes_here n c.args.threads.now.groups.now c.choose_run.new.levels.items at.thread c.index-level.result.now tally c.choose_run.ensures.levels c.in_ok-choice.ensures.next.0 c.index-level.ensures c.in_ok-choice.ensures.same in
-    let needs = get_or c.args.threads.now.needs.now at.thread c.index-threads-thread.result in
-    let has = needs_here c.args.threads.now.init.now threads c.args.threads.now.needs.now at.thread c.index-threads-thread.result c.requires.threads.needs l in
-    let marks = map (is_refused at.chosen needs.behind) needs.needs.items in
-    as_many_needs c.args.threads.now.init.now c.requires.threads.needs.stores threads at.thread needs has ∙ sym (ap (λ (ss : List ℕ). length ss) is ∙ sizes_length n tally runs (map (tallies_of n) more) sizes e.are)
+    let chosen = take at.thread at.runs.items in
+    let is = c.deref.ensures.value ∙ sizes_here (length t.init.now) t.groups.now c.choose_run.new.levels.items at.thread c.index-level.result.now (tally_at t at.levels.items at.thread) c.choose_run.ensures.levels c.in_ok-choice.ensures.next.0 c.index-level.ensures c.in_ok-choice.ensures.same in
+    (needs_fit t at.levels.items c.args.number at.thread at.rest chosen c.index-threads-thread.result c.deref.result.now c.requires.threads c.loop-thread-test.true c.if-thread-threads.true at.invariant.down is).0
 
 pub over-passed-requires-clause-most : goal.over-passed-requires-clause-most
 over-passed-requires-clause-most c =
-    let n = length c.args.threads.now.init.now in
-    let threads = c.args.threads.now.runs.now in
+    let t = c.args.threads.now in
     let at = c.loop-thread in
-    let l = c.loop-thread-test.true in
-    let runs = get_or threads at.thread [] in
-    let more = drop (at.thread + 1) threads in
-    let choice = c.in_ok-choice.choice in
-    let chosen = c.in_ok-choice.ensures.chosen in
-    let tally = tally_to n c.args.threads.now.groups.now (places_of at.levels.items) at.thread in
-    let sizes = sizes_of tally (get_or c.args.threads.now.groups.now at.thread []) (drop (at.thread + 1) c.args.threads.now.groups.now) in
-    let e = enter n (choices threads) c.args.number at.rest tally (take at.thread at.runs.items) threads c.args.threads.now.groups.now at.thread (get_or c.args.threads.now.groups.now at.thread []) (drop (at.thread + 1) c.args.threads.now.groups.now) sizes c.requires.threads.tallied l
-    (same_default c.args.threads.now.groups.now at.thread (as_many_groups (tallies_of n) c.args.threads.now.groups.now threads at.thread c.requires.threads.tallied l)) refl at.invariant.down refl in
-    let is : c.deref.result.now ≡ sizes = c.deref.ensures.value ∙ sizes_here n c.args.threads.now.groups.now c.choose_run.new.levels.items at.thread c.index-level.result.now tally c.choose_run.ensures.levels c.in_ok-choice.ensures.next.0 c.index-level.ensures c.in_ok-choice.ensures.same in
-    omega (arith, ap (sum_of (λ k. k)) is, sizes_total n (choices threads) c.args.number at.rest tally (take at.thread at.runs.items) runs more sizes e.down e.are, part_end n (choices threads) (c.args.number - at.rest) (behind (take at.thread at.runs.items) (runs ∷ more)) e.down.part, c.requires.threads.most)
+    let chosen = take at.thread at.runs.items in
+    let is = c.deref.ensures.value ∙ sizes_here (length t.init.now) t.groups.now c.choose_run.new.levels.items at.thread c.index-level.result.now (tally_at t at.levels.items at.thread) c.choose_run.ensures.levels c.in_ok-choice.ensures.next.0 c.index-level.ensures c.in_ok-choice.ensures.same in
+    (needs_fit t at.levels.items c.args.number at.thread at.rest chosen c.index-threads-thread.result c.deref.result.now c.requires.threads c.loop-thread-test.true c.if-thread-threads.true at.invariant.down is).1
 
 pub choose_run-requires-clause-number : goal.choose_run-requires-clause-number
 choose_run-requires-clause-number c =
-    let n = length c.args.threads.now.init.now in
-    let threads = c.args.threads.now.runs.now in
+    let t = c.args.threads.now in
     let at = c.loop-thread in
-    let l = c.loop-thread-test.true in
-    let d = down_at n (choices threads) c.args.number at.rest (tally_to n c.args.threads.now.groups.now (places_of at.levels.items) at.thread) (take at.thread at.runs.items) threads at.thread l at.invariant.down in
-    let here = tallies_here n threads c.args.threads.now.groups.now at.thread (get_or c.args.threads.now.groups.now at.thread []) c.requires.threads.tallied l (same_default c.args.threads.now.groups.now at.thread (as_many_groups (tallies_of n) c.args.threads.now.groups.now threads at.thread c.requires.threads.tallied l)) in
-    let after = tallies_after n threads c.args.threads.now.groups.now (drop (at.thread + 1) c.args.threads.now.groups.now) at.thread c.requires.threads.tallied refl in
-    below_on n (choices threads) c.args.number at.rest (tally_to n c.args.threads.now.groups.now (places_of at.levels.items) at.thread) (take at.thread at.runs.items) (get_or threads at.thread []) (drop (at.thread + 1) threads) (get_or c.args.threads.now.groups.now at.thread []) (drop (at.thread + 1) c.args.threads.now.groups.now) d here after
+    let chosen = take at.thread at.runs.items in
+    (size_here t at.levels.items c.args.number at.thread at.rest chosen c.requires.threads c.loop-thread-test.true at.invariant.down).1
 
 pub overflow_add-result : goal.overflow_add-result
 overflow_add-result c =
-    let n = length c.args.threads.now.init.now in
-    let threads = c.args.threads.now.runs.now in
+    let t = c.args.threads.now in
     let at = c.loop-thread in
-    let l = c.loop-thread-test.true in
-    let runs = get_or threads at.thread [] in
-    let more = drop (at.thread + 1) threads in
+    let chosen = take at.thread at.runs.items in
+    let is = c.deref.ensures.value ∙ sizes_here (length t.init.now) t.groups.now c.choose_run.new.levels.items at.thread c.index-level.result.now (tally_at t at.levels.items at.thread) c.choose_run.ensures.levels c.in_ok-choice.ensures.next.0 c.index-level.ensures c.in_ok-choice.ensures.same in
+    let runs = get_or t.runs.now at.thread [] in
+    let more = drop (at.thread + 1) t.runs.now in
     let choice = c.in_ok-choice.choice in
-    let chosen = c.in_ok-choice.ensures.chosen in
-    let tally = tally_to n c.args.threads.now.groups.now (places_of at.levels.items) at.thread in
-    let sizes = sizes_of tally (get_or c.args.threads.now.groups.now at.thread []) (drop (at.thread + 1) c.args.threads.now.groups.now) in
-    let e = enter n (choices threads) c.args.number at.rest tally (take at.thread at.runs.items) threads c.args.threads.now.groups.now at.thread (get_or c.args.threads.now.groups.now at.thread []) (drop (at.thread + 1) c.args.threads.now.groups.now) sizes c.requires.threads.tallied l
-    (same_default c.args.threads.now.groups.now at.thread (as_many_groups (tallies_of n) c.args.threads.now.groups.now threads at.thread c.requires.threads.tallied l)) refl at.invariant.down refl in
-    let is : c.deref.result.now ≡ sizes = c.deref.ensures.value ∙ sizes_here n c.args.threads.now.groups.now c.choose_run.new.levels.items at.thread c.index-level.result.now tally c.choose_run.ensures.levels c.in_ok-choice.ensures.next.0 c.index-level.ensures c.in_ok-choice.ensures.same in
-    let needs = get_or c.args.threads.now.needs.now at.thread c.index-threads-thread.result in
-    let has = needs_here c.args.threads.now.init.now threads c.args.threads.now.needs.now at.thread c.index-threads-thread.result c.requires.threads.needs l in
+    let sizes = sizes_at t at.levels.items at.thread in
+    let needs = get_or t.needs.now at.thread c.index-threads-thread.result in
     let marks = map (is_refused at.chosen needs.behind) needs.needs.items in
     let P : List ℕ → Type 0 = λ ss. IsPassed marks ss choice.place c.over-passed.result in
     let over = subst P is c.over-passed.ensures in
-    omega (arith, passed_within n (choices threads) c.args.number at.rest choice.rest tally (take at.thread at.runs.items) runs more sizes marks choice.place c.over-passed.result e.down e.are chosen.sum over, c.requires.threads.most)
+    let e = reached t at.levels.items c.args.number at.thread at.rest chosen c.requires.threads c.loop-thread-test.true at.invariant.down in
+    omega (arith, passed_within (length t.init.now) (choices t.runs.now) c.args.number at.rest choice.rest (tally_at t at.levels.items at.thread) chosen runs more sizes marks choice.place c.over-passed.result e.down e.are c.in_ok-choice.ensures.chosen.sum over, c.requires.threads.most)
 
 pub returns-then-passed-gt0-clause-located : goal.returns-then-passed-gt0-clause-located
 returns-then-passed-gt0-clause-located c =
-    let n = length c.args.threads.now.init.now in
-    let threads = c.args.threads.now.runs.now in
+    let t = c.args.threads.now in
     let at = c.loop-thread in
-    let l = c.loop-thread-test.true in
-    let runs = get_or threads at.thread [] in
-    let more = drop (at.thread + 1) threads in
+    let chosen = take at.thread at.runs.items in
+    let is = c.deref.ensures.value ∙ sizes_here (length t.init.now) t.groups.now c.choose_run.new.levels.items at.thread c.index-level.result.now (tally_at t at.levels.items at.thread) c.choose_run.ensures.levels c.in_ok-choice.ensures.next.0 c.index-level.ensures c.in_ok-choice.ensures.same in
+    let runs = get_or t.runs.now at.thread [] in
+    let more = drop (at.thread + 1) t.runs.now in
     let choice = c.in_ok-choice.choice in
-    let chosen = c.in_ok-choice.ensures.chosen in
-    let tally = tally_to n c.args.threads.now.groups.now (places_of at.levels.items) at.thread in
-    let sizes = sizes_of tally (get_or c.args.threads.now.groups.now at.thread []) (drop (at.thread + 1) c.args.threads.now.groups.now) in
-    let e = enter n (choices threads) c.args.number at.rest tally (take at.thread at.runs.items) threads c.args.threads.now.groups.now at.thread (get_or c.args.threads.now.groups.now at.thread []) (drop (at.thread + 1) c.args.threads.now.groups.now) sizes c.requires.threads.tallied l
-    (same_default c.args.threads.now.groups.now at.thread (as_many_groups (tallies_of n) c.args.threads.now.groups.now threads at.thread c.requires.threads.tallied l)) refl at.invariant.down refl in
-    let is : c.deref.result.now ≡ sizes = c.deref.ensures.value ∙ sizes_here n c.args.threads.now.groups.now c.choose_run.new.levels.items at.thread c.index-level.result.now tally c.choose_run.ensures.levels c.in_ok-choice.ensures.next.0 c.index-level.ensures c.in_ok-choice.ensures.same in
-    let needs = get_or c.args.threads.now.needs.now at.thread c.index-threads-thread.result in
-    let has = needs_here c.args.threads.now.init.now threads c.args.threads.now.needs.now at.thread c.index-threads-thread.result c.requires.threads.needs l in
+    let sizes = sizes_at t at.levels.items at.thread in
+    let needs = get_or t.needs.now at.thread c.index-threads-thread.result in
     let marks = map (is_refused at.chosen needs.behind) needs.needs.items in
     let P : List ℕ → Type 0 = λ ss. IsPassed marks ss choice.place c.over-passed.result in
     let over = subst P is c.over-passed.ensures in
-    let s : Choices = record { init = c.args.threads.now.init.now; threads = threads } in
-    passed_over s c.args.number at.rest choice.rest tally (take at.thread at.runs.items) runs more sizes marks choice.place c.over-passed.result
-    (refused c.args.threads.now.init.now c.requires.threads.needs.stores (take at.thread at.runs.items) threads at.thread at.chosen needs marks (at.invariant.chosen c.requires.threads.needs) has refl) e.down e.are chosen.sum over chosen.place chosen.within (omega (arith, c.if-passed-gt0.true))
+    let e = reached t at.levels.items c.args.number at.thread at.rest chosen c.requires.threads c.loop-thread-test.true at.invariant.down in
+    let has = needs_here t.init.now t.runs.now t.needs.now at.thread c.index-threads-thread.result c.requires.threads.needs c.if-thread-threads.true in
+    passed_over (choices_by t) c.args.number at.rest choice.rest (tally_at t at.levels.items at.thread) chosen runs more sizes marks choice.place c.over-passed.result
+    (refused t.init.now c.requires.threads.needs.stores chosen t.runs.now at.thread at.chosen needs marks (at.invariant.chosen c.requires.threads.needs (omega (arith, c.if-thread-threads.true))) has refl) e.down e.are c.in_ok-choice.ensures.chosen.sum over
+    c.in_ok-choice.ensures.chosen.place c.in_ok-choice.ensures.chosen.within (omega (arith, c.if-passed-gt0.true))
 
 pub loop-thread-preserved : goal.loop-thread-preserved
 loop-thread-preserved c =
-    let n = length c.args.threads.now.init.now in
-    let threads = c.args.threads.now.runs.now in
+    let t = c.args.threads.now in
     let at = c.loop-thread in
+    let chosen = take at.thread at.runs.items in
+    let n = length t.init.now in
     let l = c.loop-thread-test.true in
-    let runs = get_or threads at.thread [] in
-    let more = drop (at.thread + 1) threads in
     let choice = c.in_ok-choice.choice in
-    let chosen = c.in_ok-choice.ensures.chosen in
-    let sizes = sizes_of (tally_to n c.args.threads.now.groups.now (places_of at.levels.items) at.thread) (get_or c.args.threads.now.groups.now at.thread []) (drop (at.thread + 1) c.args.threads.now.groups.now) in
-    let e = enter n (choices threads) c.args.number at.rest (tally_to n c.args.threads.now.groups.now (places_of at.levels.items) at.thread) (take at.thread at.runs.items) threads c.args.threads.now.groups.now at.thread (get_or c.args.threads.now.groups.now at.thread []) (drop (at.thread + 1) c.args.threads.now.groups.now) sizes c.requires.threads.tallied l
-    (same_default c.args.threads.now.groups.now at.thread (as_many_groups (tallies_of n) c.args.threads.now.groups.now threads at.thread c.requires.threads.tallied l)) refl at.invariant.down refl in
-    let m = run_within n (choices threads) c.args.number at.rest (tally_to n c.args.threads.now.groups.now (places_of at.levels.items) at.thread) (take at.thread at.runs.items) threads at.thread sizes choice.place e chosen.place in
-    let run = get_or (get_or threads at.thread []) choice.place empty_run in
-    let groups = c.args.threads.now.groups.now in
-    let tally = tally_to n groups (places_of at.levels.items) at.thread in
-    let grown = tally_to n groups (places_of c.choose_run.new.levels.items) (at.thread + 1) in
+    let found = c.in_ok-choice.ensures.chosen in
     let next = c.in_ok-choice.ensures.next in
-    let inside = as_many_groups (tallies_of n) groups threads at.thread c.requires.threads.tallied l in
-    let here = get_or (get_or groups at.thread []) choice.place [] in
+    let longer = take (at.thread + 1) c.place_run.new.runs.items in
+    let run = get_or (get_or t.runs.now at.thread []) choice.place empty_run in
+    let here = get_or (get_or t.groups.now at.thread []) choice.place [] in
+    let e = reached t at.levels.items c.args.number at.thread at.rest chosen c.requires.threads l at.invariant.down in
+    let m = place_here_within t at.levels.items c.args.number at.thread at.rest choice.place chosen c.requires.threads l at.invariant.down found.place in
     record {
       there = omega (arith, next.0);
-      down = down_next n (choices threads) c.args.number at.rest choice.rest tally here grown (take at.thread at.runs.items) (take (at.thread + 1) c.place_run.new.runs.items) runs more sizes choice.place run e.down e.are
-          chosen.place chosen.within chosen.sum refl
-          (tally_there (λ (run : ThreadRun). tally_of n run.events) groups threads at.thread choice.place (get_or groups at.thread []) here run c.requires.threads.tallied l (same_default groups at.thread inside) m refl refl) next.1
+      down = down_next n (choices t.runs.now) c.args.number at.rest choice.rest (tally_at t at.levels.items at.thread) here (tally_at t c.choose_run.new.levels.items (at.thread + 1)) chosen longer (get_or t.runs.now at.thread []) (drop (at.thread + 1) t.runs.now)
+          (sizes_at t at.levels.items at.thread) choice.place run e.down e.are found.place found.within found.sum refl
+          (tally_there (λ (r : ThreadRun). tally_of n r.events) t.groups.now t.runs.now at.thread choice.place (get_or t.groups.now at.thread []) here run c.requires.threads.tallied l (here_default t at.thread c.requires.threads l) m refl refl) next.1
           c.in_ok-change.ensures.put;
       within = omega (arith, l);
       done = omega (arith, c.in_ok-change.ensures.done);
       placed = c.place_run.ensures.placed;
-      same = stay_fewer at.thread at.kept.same c.joined-kept.result.same (length threads) c.in_ok-change.change c.joined-kept.ensures.same at.invariant.same;
+      same = stay_fewer at.thread at.kept.same c.joined-kept.result.same (length t.runs.now) c.in_ok-change.change c.joined-kept.ensures.same at.invariant.same;
       stay = stay_on at.runs.items c.place_run.new.runs.items c.args.runs.now.items at.thread at.kept.same c.joined-kept.result.same _ c.in_ok-change.change c.joined-kept.ensures.same (omega (arith, at.invariant.done, at.invariant.placed.there)) c.in_ok-change.ensures.put c.in_ok-change.ensures.same at.invariant.stay;
       calm = λ h. (let both = c.joined-kept.ensures.calm h in let k = at.invariant.calm both.0 in (k.0, shows_on writings at.runs.items c.place_run.new.runs.items (λ like. like.calm) c.in_ok-change.change c.in_ok-change.ensures.same c.in_ok-change.ensures.calm both.1 ∙ k.1));
       alike = λ h. (let both = c.joined-kept.ensures.alike h in let k = at.invariant.alike both.0 in (k.0, shows_on outlines at.runs.items c.place_run.new.runs.items (λ like. like.alike) c.in_ok-change.change c.in_ok-change.ensures.same c.in_ok-change.ensures.alike both.1 ∙ k.1));
       levels = c.choose_run.ensures.levels;
-      chosen = λ h. needed_on c.args.threads.now.init.now threads c.args.threads.now.needs.now at.thread c.index-threads-thread.result at.chosen c.at.result c.with-next.result (take at.thread at.runs.items) (take (at.thread + 1) c.place_run.new.runs.items) choice.place h l m c.at.ensures (at.invariant.chosen h) c.in_ok-change.ensures.put
-          (c.with-next.ensures c.args.threads.now.init.now h.stores (events_of (take at.thread at.runs.items)) run.events);
+      chosen = λ h some. elim c.if-thread-threads.branch [
+        | then-thread-threads+else-passed-gt0 w ↦ (let P : Needs → Type 0 = λ k. AreNeeds t.init.now h.stores (events_of longer) k in
+            subst P (sym w.chosen-is) (needed_on t.init.now t.runs.now t.needs.now at.thread w.index-threads-thread.result at.chosen w.at.result w.with-next.result chosen longer choice.place h w.if-thread-threads.true m w.at.ensures
+            (at.invariant.chosen h (omega (arith, some))) c.in_ok-change.ensures.put (w.with-next.ensures t.init.now h.stores (events_of chosen) run.events)))
+        | else-thread-threads w ↦ absurd (omega (arith, some, w.if-thread-threads.false))
+      ];
     }
 
 pub returns-clause-located : goal.returns-clause-located
@@ -231,22 +175,19 @@ returns-clause-located c =
     (down_end n (choices threads) c.args.number at.rest (tally_to n c.args.threads.now.groups.now (places_of at.levels.items) at.thread) (take at.thread at.runs.items) (drop at.thread threads) (drop_all at.thread threads (omega (arith, c.loop-thread-test.false))) at.invariant.down)
 
 pub bounds-threads-thread : goal.bounds-threads-thread
-bounds-threads-thread c = omega (arith, c.loop-thread-test.true, c.requires.threads.needs.many)
+bounds-threads-thread c = c.if-thread-threads.true
 
 pub at-requires : goal.at-requires
 at-requires c =
-    let n = length c.args.threads.now.init.now in
-    let threads = c.args.threads.now.runs.now in
+    let t = c.args.threads.now in
     let at = c.loop-thread in
-    let l = c.loop-thread-test.true in
-    let choice = c.in_ok-choice.choice in
-    let sizes = sizes_of (tally_to n c.args.threads.now.groups.now (places_of at.levels.items) at.thread) (get_or c.args.threads.now.groups.now at.thread []) (drop (at.thread + 1) c.args.threads.now.groups.now) in
-    let e = enter n (choices threads) c.args.number at.rest (tally_to n c.args.threads.now.groups.now (places_of at.levels.items) at.thread) (take at.thread at.runs.items) threads c.args.threads.now.groups.now at.thread (get_or c.args.threads.now.groups.now at.thread []) (drop (at.thread + 1) c.args.threads.now.groups.now) sizes c.requires.threads.tallied l
-    (same_default c.args.threads.now.groups.now at.thread (as_many_groups (tallies_of n) c.args.threads.now.groups.now threads at.thread c.requires.threads.tallied l)) refl at.invariant.down refl in
-    let m = run_within n (choices threads) c.args.number at.rest (tally_to n c.args.threads.now.groups.now (places_of at.levels.items) at.thread) (take at.thread at.runs.items) threads at.thread sizes choice.place e c.in_ok-choice.ensures.chosen.place in
-    let needs = get_or c.args.threads.now.needs.now at.thread c.index-threads-thread.result in
-    let has = needs_here c.args.threads.now.init.now threads c.args.threads.now.needs.now at.thread c.index-threads-thread.result c.requires.threads.needs l in
-    omega (arith, m, as_many_needs c.args.threads.now.init.now c.requires.threads.needs.stores threads at.thread needs has)
+    let chosen = take at.thread at.runs.items in
+    let has = needs_here t.init.now t.runs.now t.needs.now at.thread c.index-threads-thread.result c.requires.threads.needs c.if-thread-threads.true in
+    omega (
+      arith,
+      place_here_within t at.levels.items c.args.number at.thread at.rest c.in_ok-choice.choice.place chosen c.requires.threads c.loop-thread-test.true at.invariant.down c.in_ok-choice.ensures.chosen.place,
+      as_many_needs t.init.now c.requires.threads.needs.stores t.runs.now at.thread (get_or t.needs.now at.thread c.index-threads-thread.result) has,
+    )
 
 pub choose_run-requires-clause-levels : goal.choose_run-requires-clause-levels
 choose_run-requires-clause-levels c = c.loop-thread.invariant.levels

@@ -20,5 +20,5 @@ invariant-loop-thread l = record {
   alike : l.kept.alike ≡ true → (length l.fn.runs.items ≤ length l.threads.runs.now) × (outlines l.runs.items ≡ outlines l.fn.runs.items);
   there : l.thread ≤ length l.levels.items;
   levels : AreLevels (length l.threads.init.now) l.threads.groups.now l.levels.items;
-  chosen : (h : AreAllNeeds l.threads.init.now l.threads.runs.now l.threads.needs.now) → AreNeeds l.threads.init.now h.stores (events_of (take l.thread l.runs.items)) l.chosen;
+  chosen : (h : AreAllNeeds l.threads.init.now l.threads.runs.now l.threads.needs.now) → l.thread ≤ length l.threads.needs.now → AreNeeds l.threads.init.now h.stores (events_of (take l.thread l.runs.items)) l.chosen;
 }
