@@ -18,7 +18,7 @@ use Rattle.slices.specs.Verdicts.{AreSorted}
 use Rattle.slices.proofs.Counted.{in_front, at_last, of_push}
 use Rattle.slices.proofs.Rows.{row_cmp, are_sorted, precedes-irreflexive}
 use Rattle.slices.proofs.Sorted.{below, same_sorted, sorted_tail}
-use Rattle.slices.proofs.Unions.{union_none, union_one, union_union}
+use Rattle.slices.proofs.Unions.{union_one, union_union}
 
 -- the test for a row
 
@@ -102,9 +102,6 @@ pub record ArePutIn (old rows left added now : List (List ℕ)) : Type 0 where
   pub grown : IsGrownBy old added now
   pub rest : (all : List (List ℕ)) → IsUnion now left all → IsUnion old rows all
 
-pub none_put_in : (old rows : List (List ℕ)) → ArePutIn old rows rows [] old
-none_put_in old rows = record { grown = record { whole = union_none old; new = λ s p. absurd p }; rest = λ all h. h }
-
 -- the next row, as it is put in
 next_left : (now next left all : List (List ℕ)) (k : List ℕ) → next ≡ insert_key row_cmp now k → IsUnion next left all → IsUnion now (k ∷ left) all
 next_left now next left all k is h = union_union (union_one now next k is) h
@@ -142,10 +139,6 @@ pub old_put_in : (old rows left added now next : List (List ℕ)) (k : List ℕ)
 old_put_in old rows left added now next k h has same =
     let P : List (List ℕ) → Type 0 = λ us. ArePutIn old rows left added us in
     subst P (sym same) (record { grown = h.grown; rest = λ all u. h.rest all (known_left now left all k (any_row k now has) u) })
-
--- all of them
-pub all_put_in : (old rows left added now : List (List ℕ)) → ArePutIn old rows left added now → left ≡ [] → IsUnion old rows now
-all_put_in old rows left added now h e = h.rest now (let U : List (List ℕ) → Type 0 = λ us. IsUnion now us now in subst U (sym e) (union_none now))
 
 -- a row that comes behind the first ones, at its place
 

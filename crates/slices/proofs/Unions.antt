@@ -1,11 +1,11 @@
 -- Rows in order, to which others are added or from which some are taken away.
-use Rattle.std.proofs.Common.{◌≡◌, ◌⊎◌, ℕ, ◌+◌, ◌<◌, ◌≤◌, List, [], ◌∷◌, ◌++◌, length, take, get_or, refl, sym, ◌∙◌, ap, subst, inl, inr}
+use Rattle.std.proofs.Common.{◌≡◌, ◌⊎◌, ℕ, ◌+◌, ◌<◌, List, [], ◌∷◌, ◌++◌, length, take, get_or, refl, sym, ◌∙◌, ap, subst, inl, inr}
 use Rattle.std.specs.BTreeSet.{insert_key}
 use Rattle.std.specs.Cmp.{ranked}
 use Rattle.std.specs.Ordering.{nat_cmp, match_ordering, ordering_then}
 use Rattle.std.specs.declared.cmp.Ordering.{Ordering}
 use Rattle.std.specs.declared.cmp.Ordering.TheVariants.{Less, Equal, Greater}
-use Rattle.std.proofs.lemmas.List.{take_all, take_more}
+use Rattle.std.proofs.lemmas.List.{take_more}
 use Rattle.listings.specs.Lists.{IsIn}
 use Rattle.listings.proofs.Listings.{in_append, in_left, in_right}
 use Rattle.slices.specs.Sums.{IsUnion}
@@ -81,6 +81,3 @@ pub union_more : (xs ys old new : List (List ℕ)) (i : ℕ) (k : List ℕ) → 
 union_more xs ys old new i k l e h is =
     let U : List (List ℕ) → Type 0 = λ us. IsUnion xs us new in
     subst U (ap (λ x. take i ys ++ x ∷ []) e ∙ sym (take_more ys i k l)) (union_union h (union_one old new k is))
-
-pub union_all : (xs ys zs : List (List ℕ)) (i : ℕ) → length ys ≤ i → IsUnion xs (take i ys) zs → IsUnion xs ys zs
-union_all xs ys zs i l h = let U : List (List ℕ) → Type 0 = λ us. IsUnion xs us zs in subst U (take_all i ys l) h
