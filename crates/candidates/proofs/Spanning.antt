@@ -1,5 +1,5 @@
 -- The numbers that share a quotient stand one behind another.
-use Rattle.std.proofs.Common.{◌≡◌, ℕ, ◌+◌, ◌-◌, ◌*◌, ◌/◌, ◌%◌, ◌<◌, ◌≤◌, List, length, drop, Bool, true, false, nat_lt, get_or, Option, Some, None, if◌then◌else◌, refl, sym, ◌∙◌, ap, subst, inl, inr, arith}
+use Rattle.std.proofs.Common.{◌≡◌, ℕ, zero, suc, ◌+◌, ◌-◌, ◌*◌, ◌/◌, ◌%◌, ◌<◌, ◌≤◌, List, [], ◌∷◌, length, drop, Bool, true, false, nat_lt, get_or, Option, Some, None, if◌then◌else◌, refl, sym, ◌∙◌, ap, subst, inl, inr, arith}
 use Rattle.std.specs.List.{All}
 use Rattle.std.proofs.lemmas.Bool.{ltb-true}
 use Rattle.std.proofs.Math.Nat.{mul_assoc, mul_comm, eq-zero-or-pos, div-add-mod, mod-lt, zero-mul, div-lt_iff_lt-mul, mul-le-mul_right, add-mul}
@@ -15,6 +15,7 @@ use Rattle.candidates.specs.Executions.{reads, upto, block}
 use Rattle.candidates.specs.Candidates.{Choices, candidate, candidate_at, is_consistent, size_of, count_sources, count_co}
 use Rattle.candidates.specs.Readings.{IsStretch}
 use Rattle.candidates.specs.Blocks.{AllExtend, IsDepth, size_by, cut_of}
+use Rattle.candidates.specs.Depths.{has_places, knows_places}
 use Rattle.candidates.specs.Walks.{IsSection}
 use Rattle.candidates.proofs.Cutting.{ways_divide, sources_split}
 use Rattle.candidates.proofs.Openings.{extends_cut}
@@ -145,3 +146,13 @@ depth_there xs ys i d e l t = (
   (let b : i < length xs = ltb-true i (length xs) (sym l) in let k = ap (λ (ds : List Depth). length ds) e in omega (arith, b, k)),
   t ∙ ap (λ (ds : List Depth). get_or ds i d) e,
 )
+
+pub places_there : (ds : List Depth) (i : ℕ) (d : Depth) → i < length ds → d ≡ get_or ds i d → knows_places ds i ≡ has_places d.known
+places_there [] i d l e = absurd (omega (arith, l))
+places_there (x ∷ xs) zero d l e = ap (λ (y : Depth). has_places y.known) (sym e)
+places_there (x ∷ xs) (suc i) d l e = places_there xs i d (omega (arith, l)) e
+
+pub no_depth_there : (ds : List Depth) (i : ℕ) → length ds ≤ i → knows_places ds i ≡ true
+no_depth_there [] i l = refl
+no_depth_there (x ∷ xs) zero l = absurd (omega (arith, l))
+no_depth_there (x ∷ xs) (suc i) l = no_depth_there xs i (omega (arith, l))

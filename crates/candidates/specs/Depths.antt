@@ -1,5 +1,5 @@
 -- The depths of the blocks of some runs, from the coarsest to the finest.
-use Rattle.std.specs.Prelude.{ℕ, zero, suc, ◌+◌, ◌-◌, ◌%◌, List, [], ◌∷◌, ◌++◌, length, map, filter, Bool, nat_lt, if◌then◌else◌}
+use Rattle.std.specs.Prelude.{ℕ, zero, suc, ◌+◌, ◌-◌, ◌%◌, List, [], ◌∷◌, ◌++◌, length, map, filter, Bool, true, false, nat_lt, if◌then◌else◌}
 use Rattle.events.specs.declared.event.Event.{Event}
 use Rattle.events.specs.Executions.{ThreadRun, GraphValue}
 use Rattle.listings.specs.Numbered.{walk}
@@ -54,6 +54,16 @@ abbrev pub cut_at : GraphValue → List Depth → ℕ → GraphValue
 cut_at x [] depth = x
 cut_at x (d ∷ ds) zero = cut_of d.known x
 cut_at x (d ∷ ds) (suc depth) = cut_at x ds depth
+
+-- whether places of writes are known at a depth, where these are the depths of its runs: where there is no such depth, all is known
+abbrev pub has_places : Known → Bool
+has_places (Sources m) = false
+has_places (Orders o) = true
+
+abbrev pub knows_places : List Depth → ℕ → Bool
+knows_places [] depth = true
+knows_places (d ∷ ds) zero = has_places d.known
+knows_places (d ∷ ds) (suc depth) = knows_places ds depth
 
 -- what is known at each of these depths
 abbrev pub known_of : List Depth → List Known

@@ -2,7 +2,7 @@
 
 ghost use Rattle.std.specs.Prelude.{◌≡◌, ◌<◌, ◌+◌, ◌-◌, [], ◌∷◌, ◌++◌, length, filter, nat_lt, if◌then◌else◌, All, IfOk, OnOk};
 ghost use Rattle.candidates.specs.Blocks.{IsDepth, open_among, ways_of_orders};
-ghost use Rattle.candidates.specs.Depths.{before_reads, by_places, by_locations, depths_of, is_open, known_of};
+ghost use Rattle.candidates.specs.Depths.{before_reads, by_places, by_locations, depths_of, has_places, is_open, known_of};
 ghost use Rattle.candidates.specs.Executions.{later_writes, upto};
 ghost use Rattle.candidates.specs.declared.depths.Known.TheVariants.{Sources};
 ghost use Rattle.candidates.specs.Readings.{IsPage};
@@ -41,6 +41,18 @@ pub(crate) enum Known {
     Sources(usize),
     /// What all reads read from, and the orders without the writes that have no place.
     Orders(Unplaced),
+}
+
+impl Known {
+    /// Whether places of writes are known.
+    pub(crate) fn has_places(self) -> bool
+        ensures { result ≡ has_places self }
+    {
+        match self {
+            Known::Sources(_) => false,
+            Known::Orders(_) => true,
+        }
+    }
 }
 
 /// Blocks of one size.

@@ -249,13 +249,9 @@ pub(crate) fn all_needs(
 /// How many of the first threads are to be asked: up to the last that may refuse a run. It only spares work: whatever it is, nothing is refused
 /// that may be in an execution.
 fn count_asked(all: &[ThreadNeeds]) -> usize {
-    let mut count = 0;
-    for thread in 0..all.len() {
-        if all[thread].may_refuse() {
-            count = thread + 1;
-        }
-    }
-    count
+    all.iter()
+        .rposition(ThreadNeeds::may_refuse)
+        .map_or(0, |last| last + 1)
 }
 
 /// Whether one word has a bit that the other hasn't.

@@ -8,7 +8,7 @@ ghost use Rattle.events.specs.Cuts.{cut_down};
 ghost use Rattle.events.specs.Opened.{opened};
 ghost use Rattle.candidates.specs.Blocks.{AllExtend};
 ghost use Rattle.candidates.specs.Candidates.{Choices, candidate, graph_at, size_of, no_execution};
-ghost use Rattle.candidates.specs.Depths.{cut_at, end_at};
+ghost use Rattle.candidates.specs.Depths.{cut_at, end_at, knows_places};
 ghost use Rattle.candidates.specs.Levels.{ArePlaced};
 ghost use Rattle.candidates.specs.Readings.{IsKnown, IsPage, IsSeen, MayBeStretch};
 ghost use Rattle.candidates.specs.Walks.{IsAhead, IsBegun, IsFind, IsFound, IsHit, IsJustFound, IsMiss, IsNear, IsNumberOf, IsPausedIn, IsPlace, IsReached, IsScene, IsSection, IsVisit, IsWithin, HasNoSection, depths_around};
@@ -469,6 +469,17 @@ impl<'a> Walk<'a> {
         ensures { result ≡ length (depths_around self.now) }
     {
         self.scene.stretch.page.depths.len()
+    }
+
+    /// Whether places of writes are known in the blocks of this depth around the execution found last, so that all sources are, too. At a
+    /// depth that there is not, all is known.
+    pub fn knows_places(&self, depth: usize) -> bool
+        ensures { result ≡ knows_places (depths_around self.now) depth }
+    {
+        match self.scene.stretch.page.depths.get(depth) {
+            Some(at) => at.known.has_places(),
+            None => true,
+        }
     }
 
     /// The number behind the block of this depth around the number found last. At a depth that there is not, the block is that

@@ -1,45 +1,8 @@
--- What can be told of finitely many events: whether one of them has a property, and whether a chain of pairs leads from one to another.
-use Rattle.std.proofs.Common.{◌≡◌, ℕ, zero, suc, ◌<◌, ◌⊎◌, Bool, true, sym, ◌∙◌, subst, inl, inr, arith}
-use Rattle.std.proofs.lemmas.Bool.{cases_Bool, cases_eq, false≢true}
+-- Whether a chain of pairs leads from one event to another can be told, where it can be told of each pair.
+use Rattle.std.proofs.Common.{◌≡◌, ℕ, zero, suc, ◌<◌, ◌⊎◌, subst, inl, inr, arith}
+use Rattle.std.proofs.lemmas.Bool.{cases_eq}
+use Rattle.listings.proofs.Telling.{Told, told_or, told_and, told_as}
 use Rattle.relations.specs.Algebra.{Chain, one, more}
-
--- it is told whether P holds
-abbrev pub Told : Type 0 → Type 0
-Told P = P ⊎ (P → ⊥)
-
-pub told_truth : (b : Bool) → Told (b ≡ true)
-told_truth b = elim (cases_Bool b) [ inl t ↦ inl t | inr f ↦ inr (λ t. false≢true (sym f ∙ t)) ]
-
-pub told_or : (P Q : Type 0) → Told P → Told Q → Told (P ⊎ Q)
-told_or P Q (inl p) q = inl (inl p)
-told_or P Q (inr p) (inl q) = inl (inr q)
-told_or P Q (inr p) (inr q) = inr (λ x. elim x [ inl a ↦ p a | inr b ↦ q b ])
-
-pub told_and : (P Q : Type 0) → Told P → Told Q → Told (P × Q)
-told_and P Q (inl p) (inl q) = inl (p, q)
-told_and P Q (inl p) (inr q) = inr (λ x. q x.1)
-told_and P Q (inr p) q = inr (λ x. p x.0)
-
-pub told_not : (P : Type 0) → Told P → Told (P → ⊥)
-told_not P (inl p) = inr (λ f. f p)
-told_not P (inr p) = inl p
-
-pub told_as : (P Q : Type 0) → (P → Q) → (Q → P) → Told P → Told Q
-told_as P Q f g (inl p) = inl (f p)
-told_as P Q f g (inr p) = inr (λ q. p (g q))
-
-one_more : (P : ℕ → Type 0) (n : ℕ) → Told (P n) → Told ((m : ℕ) × (m < n) × P m) → Told ((m : ℕ) × (m < suc n) × P m)
-one_more P n (inl p) r = inl (n, omega arith, p)
-one_more P n (inr p) (inl x) = inl (x.0, (let l : x.0 < n = x.1 in omega (arith, l)), x.2)
-one_more P n (inr p) (inr r) = inr (λ x. elim (cases_eq x.0 n) [
-  | inl e ↦ p (subst P e x.2)
-  | inr d ↦ (let l : x.0 < suc n = x.1 in r (x.0, omega (arith, l, d), x.2))
-])
-
--- Whether one of n events has the property.
-pub told_some : (P : ℕ → Type 0) → ((m : ℕ) → Told (P m)) → (n : ℕ) → Told ((m : ℕ) × (m < n) × P m)
-told_some P d zero = inr (λ x. (let l : x.0 < 0 = x.1 in absurd (omega (arith, l))))
-told_some P d (suc n) = one_more P n (d n) (told_some P d n)
 
 -- a chain from i to j whose inner events are below k
 abbrev Via : (ℕ → ℕ → Type 0) → (k i j : ℕ) → Type 0

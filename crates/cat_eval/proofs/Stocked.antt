@@ -6,6 +6,7 @@ use Rattle.std.proofs.lemmas.Bool.{cases_Bool, cases_lt, false≢true}
 use Rattle.std.proofs.lemmas.List.Elements.{All-head, All-tail}
 use Rattle.std.proofs.lemmas.Slice.Eq.{bytes_eq-Decides}
 use Rattle.listings.specs.Lists.{ForEach}
+use Rattle.listings.proofs.Telling.{Told, told_truth, told_as}
 use Rattle.cat_tree.specs.declared.node.Infix.TheVariants as infixes
 use Rattle.cat_tree.specs.declared.node.Sign.TheVariants as signs
 use Rattle.cat_tree.specs.Tree.{Word}
@@ -24,7 +25,6 @@ use Rattle.cat_eval.specs.CoreJudging.{Names, Binds}
 use Rattle.cat_eval.specs.CoreMeaning.{With, Under, AreBound, IsLeast}
 use Rattle.cat_eval.specs.Names.{Beforehand}
 use Rattle.cat_eval.specs.Steps.{sort_of, scope_of, IsEmptyEntry}
-use Rattle.cat_eval.proofs.Chained.{Told, told_truth, told_as}
 use Rattle.cat_eval.proofs.Climbing.{IsBase, IsGroup, Climbs, start, climb, top, missing, missing_tight, round_like}
 use Rattle.cat_eval.proofs.Environments.{under_fits}
 use Rattle.cat_eval.proofs.Execution.{names_fit}

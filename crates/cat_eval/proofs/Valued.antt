@@ -3,6 +3,7 @@ use Rattle.std.proofs.Common.{◌≡◌, ℕ, ◌<◌, ◌⊎◌, List, [], Bool
 use Rattle.std.specs.List.{slice_get}
 use Rattle.std.proofs.lemmas.Bool.{cases_lt, cases_eq, false≢true}
 use Rattle.std.proofs.lemmas.List.{get_or_past}
+use Rattle.listings.proofs.Telling.{Told, told_truth, told_or, told_and, told_not, told_as, told_some}
 use Rattle.relations.specs.Events.{EventSet, Has, event_set}
 use Rattle.relations.specs.Relation.{Relation, In, relation}
 use Rattle.relations.specs.Tables.{place, cell}
@@ -30,7 +31,7 @@ use Rattle.cat_eval.specs.Names.{Beforehand}
 use Rattle.cat_eval.specs.Steps.{sort_of}
 use Rattle.cat_eval.specs.Code.{place_in, Tells, bound, known, nothing, no_pair, no_event, all_events, signed, combined, copied}
 use Rattle.cat_eval.proofs.Sorting.{Fits, means_sort}
-use Rattle.cat_eval.proofs.Chained.{Told, told_truth, told_or, told_and, told_not, told_as, told_some, told_chain}
+use Rattle.cat_eval.proofs.Chained.{told_chain}
 
 -- SETS AND RELATIONS
 

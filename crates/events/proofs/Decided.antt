@@ -1,7 +1,8 @@
 -- Of each event, and of each two, it is decided whether it is in the set, or they are in the relation, of a name.
-use Rattle.std.proofs.Common.{◌≡◌, ◌<◌, ◌⊎◌, ℕ, suc, List, [], ◌∷◌, length, true, subst, inl, inr, arith}
-use Rattle.std.proofs.lemmas.Bool.{cases_eq, cases_lt}
+use Rattle.std.proofs.Common.{◌≡◌, ◌<◌, ◌⊎◌, ℕ, suc, List, [], ◌∷◌, length, true, false, refl, subst, inl, inr, arith}
+use Rattle.std.proofs.lemmas.Bool.{cases_eq, cases_lt, false≢true}
 use Rattle.listings.specs.Lists.{IsIn, StandsAt}
+use Rattle.listings.proofs.Telling.{Told, told_truth, told_or, told_and, told_each, told_not, told_as, told_by, told_below, told_some, told_one, told_at}
 use Rattle.relations.specs.Events.{EventSet, Has}
 use Rattle.relations.specs.Tables.{place}
 use Rattle.events.specs.declared.event.Access.{Access}
@@ -20,9 +21,12 @@ use Rattle.events.specs.Named.{event_count, access_of, location_of, order_of, da
 use Rattle.events.specs.Opened.{IsDecided}
 use Rattle.events.proofs.Adding.{number_below, of_number}
 use Rattle.events.proofs.Cutting.{among_in, in_among, same_is, same_self, in_stands, stands_in, before_head, before_tail, before_split, before_none}
-use Rattle.events.proofs.Deciding.{Told, decided, told_truth, told_or, told_and, told_each, told_not, told_as, told_by, told_below, told_some, told_one, told_at}
 use Rattle.events.proofs.Standing.{by_number, by_numbers, stands_below}
 use Rattle.events.proofs.Told.{access_exact, order_exact}
+
+decided : (P : Type 0) → Told P → IsDecided P
+decided P (inl p) = (true, (λ e. p, λ q. refl))
+decided P (inr p) = (false, (λ e. absurd (false≢true e), λ q. absurd (p q)))
 
 -- EVENTS
 

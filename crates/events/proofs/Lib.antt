@@ -14,7 +14,6 @@ pub mod Direct
 pub mod Grouping
 pub mod Extending
 pub mod Within
-pub mod Deciding
 pub mod Told
 pub mod Decided
 pub mod Opening

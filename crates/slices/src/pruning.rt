@@ -13,7 +13,7 @@ use crate::misplaced::Misplaced;
 use crate::prospects::Prospects;
 use crate::span::Span;
 use candidates::Walk;
-use cat_eval::{Evaluator, Judgement};
+use cat_eval::{Evaluator, Judgement, is_orderless};
 use cat_model::Model;
 use cat_tree::Item;
 use events::Graph;
@@ -23,6 +23,8 @@ use std::alloc::{AllocError, Global};
 pub struct Pruner {
     /// Whether a check of the model may tell that of executions of which not all is known.
     may_refute: bool,
+    /// Whether it is known that the model doesn't look at the orders: what it says of a block then rests on nothing that places of writes tell.
+    orderless: bool,
     prospects: Prospects,
     /// The numbers that were refuted last; none at first.
     refuted: Span,
@@ -35,6 +37,7 @@ impl Drop for Pruner {
     fn drop(self) {
         let Pruner {
             may_refute: _,
+            orderless: _,
             prospects: _,
             refuted: _,
             misplaced: _,
@@ -57,6 +60,7 @@ impl Pruner {
     {
         Pruner {
             may_refute: model.items().iter().any(may_refute),
+            orderless: is_orderless(model),
             prospects: Prospects::new(),
             refuted: Span { from: 0, to: 0 },
             misplaced: Misplaced::new(),
@@ -139,6 +143,9 @@ impl Pruner {
             return Ok(true);
         }
         for depth in self.prospects.leave(number)..walk.depths() {
+            if self.orderless && walk.knows_places(depth) {
+                break;
+            }
             if let Some(end) = self.ask(alloc, evaluator, walk, depth)? {
                 self.refuted = Span {
                     from: number,

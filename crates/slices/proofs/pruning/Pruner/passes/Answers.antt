@@ -44,8 +44,15 @@ returns-in-Some-clause-passed c =
     let P : Walking → Type 0 = λ v. ArePassed items n v c.pass.new.self in
     subst P at.walk (gone_on items n c.in-Some.end w c.pass.new.self (ap (λ (v : Walking). v.next) at.walk ∙ c.requires.found) block c.pass.ensures.space c.pass.ensures.to c.pass.ensures.next)
 
-pub returns-clause-known : goal.returns-clause-known
-returns-clause-known c =
+pub returns-after-loop-depth-clause-known : goal.returns-after-loop-depth-clause-known
+returns-after-loop-depth-clause-known c =
+    let items = c.args.evaluator.now.items in
+    let at = c.loop-depth.invariant in
+    let R : Span → Type 0 = λ z. NoneAllowed items c.args.walk.now.space z.from z.to in
+    (subst R (sym at.refuted) c.requires.known.0, at.learned items c.requires.known.1)
+
+pub returns-then-knows_places-clause-known : goal.returns-then-knows_places-clause-known
+returns-then-knows_places-clause-known c =
     let items = c.args.evaluator.now.items in
     let at = c.loop-depth.invariant in
     let R : Span → Type 0 = λ z. NoneAllowed items c.args.walk.now.space z.from z.to in

@@ -1,18 +1,13 @@
--- What is decided: whether P holds is told, where it is told of its parts.
-use Rattle.std.proofs.Common.{◌≡◌, ◌<◌, ◌⊎◌, ℕ, zero, suc, List, [], ◌∷◌, Bool, true, false, refl, sym, ◌∙◌, subst, inl, inr, arith}
+-- What can be told: whether P holds, where it can be told of its parts.
+use Rattle.std.proofs.Common.{◌≡◌, ◌<◌, ◌⊎◌, ℕ, zero, suc, List, [], ◌∷◌, Bool, true, refl, sym, ◌∙◌, subst, inl, inr, arith}
 use Rattle.std.specs.Bool.{Decides}
 use Rattle.std.proofs.lemmas.Bool.{cases_Bool, cases_eq, false≢true}
 use Rattle.std.proofs.lemmas.Bool.Decides.{Decides-ltb}
 use Rattle.listings.specs.Lists.{IsIn, StandsAt}
-use Rattle.events.specs.Opened.{IsDecided}
 
 -- it is told whether P holds
 abbrev pub Told : Type 0 → Type 0
 Told P = P ⊎ (P → ⊥)
-
-pub decided : (P : Type 0) → Told P → IsDecided P
-decided P (inl p) = (true, (λ e. p, λ q. refl))
-decided P (inr p) = (false, (λ e. absurd (false≢true e), λ q. absurd (p q)))
 
 pub told_truth : (b : Bool) → Told (b ≡ true)
 told_truth b = elim (cases_Bool b) [ inl t ↦ inl t | inr f ↦ inr (λ t. false≢true (sym f ∙ t)) ]
