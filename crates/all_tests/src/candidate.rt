@@ -4,6 +4,7 @@ mod blocks;
 mod executions;
 mod growth;
 mod opened;
+mod placed;
 mod runs;
 pub mod states;
 mod texts;

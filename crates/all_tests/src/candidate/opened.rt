@@ -8,7 +8,7 @@ use events::{Cut, EventId, Graph};
 use std::alloc::{AllocError, Global};
 
 /// Four threads of a store to x and one to y each: 4! orders of y, of each 4! of x, which change faster.
-const FOUR_PAIRS: &str = "C P\n{}\n\
+pub const FOUR_PAIRS: &str = "C P\n{}\n\
 P0 (atomic_int* x, atomic_int* y) { atomic_store_explicit(x, 1, memory_order_relaxed); atomic_store_explicit(y, 1, memory_order_relaxed); }\n\
 P1 (atomic_int* x, atomic_int* y) { atomic_store_explicit(x, 2, memory_order_relaxed); atomic_store_explicit(y, 2, memory_order_relaxed); }\n\
 P2 (atomic_int* x, atomic_int* y) { atomic_store_explicit(x, 3, memory_order_relaxed); atomic_store_explicit(y, 3, memory_order_relaxed); }\n\
