@@ -1,5 +1,6 @@
 pub mod Adding
 pub mod Admitted
+pub mod Again
 pub mod Answered
 pub mod Chosen
 pub mod Counted
@@ -12,11 +13,13 @@ pub mod Judging
 pub mod Mapped
 pub mod Members
 pub mod Merging
+pub mod Numbered
 pub mod Opened
 pub mod Orders
 pub mod Pairing
 pub mod PassedOver
 pub mod Picked
+pub mod Recently
 pub mod Rows
 pub mod Sent
 pub mod Sets

@@ -7,11 +7,12 @@ ghost use Rattle.cat_eval.specs.Orderless.{IsOrderless};
 ghost use Rattle.events.specs.Executions.{GraphValue};
 ghost use Rattle.listings.specs.Lists.{product_by};
 ghost use Rattle.slices.specs.Alike.{AreFew, of_ways};
+ghost use Rattle.slices.specs.Gathered.{IsKept};
 ghost use Rattle.slices.specs.Sums.{IsSum};
 ghost use Rattle.slices.specs.Ways.{size_of_ways, ways_shown};
 
-use crate::finding::Finding;
-use crate::slot::{Slot, row_by};
+use crate::gathering::Gathering;
+use crate::slot::Slot;
 use crate::ways::{Ways, choose, ways_of};
 use crate::work::Work;
 use candidates::{OpenOrders, Walk};
@@ -35,25 +36,25 @@ pub(crate) fn alike_behind(work: &Work, walk: &Walk<'_>) -> Option<OpenOrders>
     }
 }
 
-impl Finding {
+impl Gathering {
     /// Counts the final states of some orders of an execution: by the writes that stand last in them.
     fn add_ways(
         &mut self,
-        alloc: Global,
         slots: &[Slot],
         graph: &Graph,
         ways: &[Ways<'_>],
     ) -> Result<(), AllocError>
-        requires whole { length self.old.places ≡ length slots.now }
+        requires kept { IsKept self.old }
+        requires whole { length self.old.finding.places ≡ length slots.now }
         requires ways { AreFew ways.now }
-        requires few { self.old.positive + self.old.negative + product_by size_of_ways ways.now < 2 ^ 64 }
-        ensures { OnOk result (IsSum self.old (of_ways self.old graph.now slots.now ways.now []) self.new) }
+        requires few { self.old.finding.positive + self.old.finding.negative + product_by size_of_ways ways.now < 2 ^ 64 }
+        ensures kept { OnOk result (IsKept self.new) }
+        ensures sum { OnOk result (IsSum self.old.finding (of_ways self.old.finding graph.now slots.now ways.now []) self.new.finding) }
     {
-        let mut lasts = Vec::new(alloc);
         let mut number = 0;
-        while let Some(times) = choose(ways, number, &mut lasts)? {
-            let state = row_by(alloc, slots, graph, &lasts)?;
-            self.add(state, times)?;
+        while let Some(times) = choose(ways, number, &mut self.lasts)? {
+            self.state.show_by(slots, graph, &self.lasts)?;
+            self.add(times)?;
             number += 1;
         }
         Ok(())
@@ -68,19 +69,21 @@ impl Finding {
         range: OpenOrders,
         judgement: &Judgement,
     ) -> Result<(), AllocError>
-        requires whole { length self.old.places ≡ length slots.now }
+        requires kept { IsKept self.old }
+        requires whole { length self.old.finding.places ≡ length slots.now }
         requires ways { AreFew (ways_shown slots.now range graph.now) }
-        requires few { self.old.positive + self.old.negative + product_by size_of_ways (ways_shown slots.now range graph.now) < 2 ^ 64 }
-        ensures { OnOk result (MatchBool judgement.now.allowed
-            (IsSum self.old (of_ways self.old graph.now slots.now (ways_shown slots.now range graph.now) judgement.now.flags) self.new)
-            (self.new ≡ self.old)) }
+        requires few { self.old.finding.positive + self.old.finding.negative + product_by size_of_ways (ways_shown slots.now range graph.now) < 2 ^ 64 }
+        ensures kept { OnOk result (IsKept self.new) }
+        ensures sum { OnOk result (MatchBool judgement.now.allowed
+            (IsSum self.old.finding (of_ways self.old.finding graph.now slots.now (ways_shown slots.now range graph.now) judgement.now.flags) self.new.finding)
+            (self.new.finding ≡ self.old.finding)) }
     {
         if !judgement.allowed() {
             return Ok(());
         }
         let ways = ways_of(alloc, slots, graph, range)?;
-        self.add_ways(alloc, slots, graph, &ways)?;
-        self.raise(judgement.flags())?;
+        self.add_ways(slots, graph, &ways)?;
+        self.finding.raise(judgement.flags())?;
         Ok(())
     }
 }

@@ -3,6 +3,7 @@
 ghost use Rattle.std.specs.Prelude.{◌≡◌, ◌+◌, ◌-◌, ◌^◌, ◌<◌, Some, length, map, IfOk, IfSome, OnOk, MatchBool};
 ghost use Rattle.candidates.specs.Candidates.{choices_of, graph_at};
 ghost use Rattle.events.specs.Structures.{structure_of};
+ghost use Rattle.slices.specs.Gathered.{IsKept};
 ghost use Rattle.slices.specs.Parts.{IsPart, IsRange};
 ghost use Rattle.slices.specs.Passing.{Knows};
 ghost use Rattle.slices.specs.Slots.{slot_value};
@@ -10,9 +11,10 @@ ghost use Rattle.slices.specs.Steady.{AreSteady};
 ghost use Rattle.slices.specs.Sums.{IsSum, of_state};
 
 use crate::finding::Finding;
+use crate::gathering::Gathering;
 use crate::judged::{Judged, judge};
 use crate::pruning::Pruner;
-use crate::slot::{Slot, row};
+use crate::slot::Slot;
 use crate::work::WorkRef;
 use candidates::Walk;
 use cat_eval::{Evaluator, Judgement};
@@ -60,8 +62,9 @@ pub fn count(
 {
     let inner = work.work();
     prove!(inner.size() <= u64::MAX);
-    let mut finding = Finding::nothing(alloc, work.share()?)?;
     let slots = inner.slots();
+    let finding = Finding::nothing(alloc, work.share()?)?;
+    let mut gathering = Gathering::new(alloc, finding, slots.len());
     pruner.begin(walk, from);
     let mut steady = 0;
     while let Some(number) = walk.next(alloc)? {
@@ -72,35 +75,37 @@ pub fn count(
         let Judged { judgement, open } = judge(alloc, inner, walk, evaluator, pruner)?;
         let graph = walk.graph();
         if let Some(range) = open {
-            finding.weigh_alike(alloc, slots, graph, range, &judgement)?;
+            gathering.weigh_alike(alloc, slots, graph, range, &judgement)?;
             walk.pass(number + range.size());
             continue;
         }
-        finding.weigh(alloc, slots, graph, &judgement)?;
+        gathering.weigh(slots, graph, &judgement)?;
     }
-    Ok(finding)
+    Ok(gathering.into_finding())
 }
 
-impl Finding {
+impl Gathering {
     /// Counts an execution, if it is allowed.
     fn weigh(
         &mut self,
-        alloc: Global,
         slots: &[Slot],
         graph: &Graph,
         judgement: &Judgement,
     ) -> Result<(), AllocError>
-        requires few { self.old.positive + self.old.negative < 2 ^ 64 - 1 }
-        requires whole { length self.old.places ≡ length slots.now }
-        ensures { OnOk result (MatchBool judgement.now.allowed
-            (IsSum self.old (of_state self.old (map (slot_value graph.now) slots.now) 1 judgement.now.flags) self.new)
-            (self.new ≡ self.old)) }
+        requires kept { IsKept self.old }
+        requires few { self.old.finding.positive + self.old.finding.negative < 2 ^ 64 - 1 }
+        requires whole { length self.old.finding.places ≡ length slots.now }
+        ensures kept { OnOk result (IsKept self.new) }
+        ensures sum { OnOk result (MatchBool judgement.now.allowed
+            (IsSum self.old.finding (of_state self.old.finding (map (slot_value graph.now) slots.now) 1 judgement.now.flags) self.new.finding)
+            (self.new.finding ≡ self.old.finding)) }
     {
         if !judgement.allowed() {
             return Ok(());
         }
-        self.add(row(alloc, slots, graph)?, 1)?;
-        self.raise(judgement.flags())?;
+        self.state.show(slots, graph)?;
+        self.add(1)?;
+        self.finding.raise(judgement.flags())?;
         Ok(())
     }
 }

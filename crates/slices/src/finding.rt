@@ -7,7 +7,8 @@ ghost use Rattle.std.specs.Ordering.{nat_cmp};
 ghost use Rattle.cat_tree.specs.Tree.{Clause};
 ghost use Rattle.conditions.specs.Conditions.{formula_of};
 ghost use Rattle.slices.specs.Findings.{is_ok, word};
-ghost use Rattle.slices.specs.Sums.{AddsUp, IsSum, IsUnion, of_flags, of_state};
+ghost use Rattle.slices.specs.Counts.{with_count};
+ghost use Rattle.slices.specs.Sums.{AddsUp, IsSum, IsUnion, of_flags, of_state, state_has};
 ghost use Rattle.slices.specs.Verdicts.{AreSorted, Tells};
 
 use crate::row::Row;
@@ -239,20 +240,29 @@ impl Finding {
         })
     }
 
-    /// Adds a final state that is found so many times.
-    pub(crate) fn add(&mut self, state: Row, times: u64) -> Result<(), AllocError>
+    /// Adds a final state that is found so many times, and tells whether it has the proposition.
+    pub(crate) fn add(&mut self, state: Row, times: u64) -> Result<bool, AllocError>
         requires few { self.old.positive + self.old.negative + times < 2 ^ 64 }
         requires whole { length self.old.places ≡ length state }
-        ensures { OnOk result (IsSum self.old (of_state self.old state times []) self.new) }
+        ensures sum { OnOk result (IsSum self.old (of_state self.old state times []) self.new) }
+        ensures has { IfOk result (λ has. has ≡ state_has self.old state) }
     {
         let has = holds(self.prop(), &State::new(self.places(), state.values()));
         self.states.insert(state)?;
+        self.count(has, times);
+        Ok(has)
+    }
+
+    /// Counts so many executions more that have the proposition, or have it not.
+    pub(crate) fn count(&mut self, has: bool, times: u64)
+        requires { self.old.positive + self.old.negative + times < 2 ^ 64 }
+        ensures { self.new ≡ with_count self.old has times }
+    {
         if has {
             self.positive += times;
         } else {
             self.negative += times;
         }
-        Ok(())
     }
 
     /// Adds the names of flags that were raised.

@@ -44,22 +44,6 @@ pub fn row(alloc: Global, slots: &[Slot], graph: &Graph) -> Result<Row, AllocErr
     Ok(Row::new(values))
 }
 
-/// The values where these writes stand last, one of each location.
-pub fn row_by(
-    alloc: Global,
-    slots: &[Slot],
-    graph: &Graph,
-    lasts: &[EventId],
-) -> Result<Row, AllocError>
-    ensures { IfOk result (λ r. r ≡ map (slot_by graph.now lasts.now) slots.now) }
-{
-    let mut values = Vec::with_capacity(alloc, slots.len())?;
-    for slot in slots {
-        values.push(slot.value_by(graph, lasts))?;
-    }
-    Ok(Row::new(values))
-}
-
 /// Whether the value of a location is among those that stand there.
 pub fn is_seen(slots: &[Slot], location: usize) -> bool
     ensures { result ≡ is_seen slots.now location }
@@ -84,7 +68,7 @@ impl Slot {
         }
     }
 
-    fn value_in(self, graph: &Graph) -> u32
+    pub(crate) fn value_in(self, graph: &Graph) -> u32
         ensures { result ≡ slot_value graph.now self }
     {
         match self {
@@ -97,7 +81,7 @@ impl Slot {
     }
 
     /// The value where these writes stand last.
-    fn value_by(self, graph: &Graph, lasts: &[EventId]) -> u32
+    pub(crate) fn value_by(self, graph: &Graph, lasts: &[EventId]) -> u32
         ensures { result ≡ slot_by graph.now lasts.now self }
     {
         match self {

@@ -22,8 +22,8 @@ use Rattle.slices.proofs.Steadily.{steady_behind, steady_from, steady_nowhere}
 use Rattle.slices.proofs.Weighed.{as_long, few_ways, said_at, same_places, walked_alike, walked_one}
 use Rattle.slices.proofs.counting.count.Goals as goal
 
-pub loop-finding-init : goal.loop-finding-init
-loop-finding-init c =
+pub loop-gathering-init : goal.loop-gathering-init
+loop-gathering-init c =
     let w = c.args.work.now in
     let T : WorkValue → Type 0 = λ z. Tells z.test w.model.items [] c.in_ok-finding.finding in
     let begun = walked_none_yet w.test w.model.items c.args.walk.now.next c.args.walk.now.to c.args.walk.now c.in_ok-finding.finding
@@ -38,75 +38,76 @@ loop-finding-init c =
     }
 
 pub weigh_alike-requires-clause-whole : goal.weigh_alike-requires-clause-whole
-weigh_alike-requires-clause-whole c = as_long c.args.work.now.test c.loop-finding.finding.places c.slots-slots.result.now (c.loop-finding.invariant.slots)
+weigh_alike-requires-clause-whole c = as_long c.args.work.now.test c.loop-gathering.gathering.finding.places c.slots-slots.result.now (c.loop-gathering.invariant.slots)
 
 pub weigh_alike-requires-clause-ways : goal.weigh_alike-requires-clause-ways
 weigh_alike-requires-clause-ways c =
     let n = c.in-Some.number in
-    let hit = hit_number c.loop-finding.walk c.next.new.self c.in_ok-number.field-0 n c.in-Some.is c.in_ok-number.ensures.found in
+    let hit = hit_number c.loop-gathering.walk c.next.new.self c.in_ok-number.field-0 n c.in-Some.is c.in_ok-number.ensures.found in
     let same = not_passed c.in_ok-passes.field-0 (ArePassed c.rely-steady.new.evaluator.items n c.next.new.self c.passes.new.walk) (c.passes.new.walk ≡ c.next.new.self) c.if-branch.false c.in_ok-passes.ensures.passed in
-    let H : Walking → Type 0 = λ w. IsHit c.loop-finding.walk w n in
+    let H : Walking → Type 0 = λ w. IsHit c.loop-gathering.walk w n in
     let here = subst H (sym same) hit in
-    let model = c.passes.ensures.model ∙ (c.rely-steady.ensures.items ∙ c.loop-finding.invariant.model) in
+    let model = c.passes.ensures.model ∙ (c.rely-steady.ensures.items ∙ c.loop-gathering.invariant.model) in
     let admitted = subst (λ (z : WorkValue). IsAdmitted z.test) c.work-inner.ensures c.size.ensures.admitted in
     let j = c.in_ok-judgement.field-0.judgement in
     let o = c.in-Some-open.range in
     let said = said_behind c.passes.new.evaluator.items c.args.work.now.model.items c.passes.new.walk c.in_ok-judgement.field-0 o model c.in-Some-open.is c.in_ok-judgement.ensures.said in
-    let at = said_at c.args.work.now.test c.args.work.now.model.items c.args.walk.now.next c.args.walk.now.to n c.loop-finding.walk c.passes.new.walk j o c.loop-finding.finding c.loop-finding.invariant.counted here c.requires.range admitted said in
-    (few_ways c.args.work.now.test c.args.work.now.model.items c.args.walk.now.next c.args.walk.now.to n c.loop-finding.walk c.passes.new.walk c.slots-slots.result.now o c.graph-graph.result.now c.loop-finding.finding c.loop-finding.invariant.counted here at.alike at.at c.graph-graph.ensures at.within).0
+    let at = said_at c.args.work.now.test c.args.work.now.model.items c.args.walk.now.next c.args.walk.now.to n c.loop-gathering.walk c.passes.new.walk j o c.loop-gathering.gathering.finding c.loop-gathering.invariant.counted here c.requires.range admitted said in
+    (few_ways c.args.work.now.test c.args.work.now.model.items c.args.walk.now.next c.args.walk.now.to n c.loop-gathering.walk c.passes.new.walk c.slots-slots.result.now o c.graph-graph.result.now c.loop-gathering.gathering.finding c.loop-gathering.invariant.counted here at.alike at.at c.graph-graph.ensures at.within).0
 
 pub weigh_alike-requires-clause-few : goal.weigh_alike-requires-clause-few
 weigh_alike-requires-clause-few c =
     let n = c.in-Some.number in
-    let hit = hit_number c.loop-finding.walk c.next.new.self c.in_ok-number.field-0 n c.in-Some.is c.in_ok-number.ensures.found in
+    let hit = hit_number c.loop-gathering.walk c.next.new.self c.in_ok-number.field-0 n c.in-Some.is c.in_ok-number.ensures.found in
     let same = not_passed c.in_ok-passes.field-0 (ArePassed c.rely-steady.new.evaluator.items n c.next.new.self c.passes.new.walk) (c.passes.new.walk ≡ c.next.new.self) c.if-branch.false c.in_ok-passes.ensures.passed in
-    let H : Walking → Type 0 = λ w. IsHit c.loop-finding.walk w n in
+    let H : Walking → Type 0 = λ w. IsHit c.loop-gathering.walk w n in
     let here = subst H (sym same) hit in
-    let model = c.passes.ensures.model ∙ (c.rely-steady.ensures.items ∙ c.loop-finding.invariant.model) in
+    let model = c.passes.ensures.model ∙ (c.rely-steady.ensures.items ∙ c.loop-gathering.invariant.model) in
     let admitted = subst (λ (z : WorkValue). IsAdmitted z.test) c.work-inner.ensures c.size.ensures.admitted in
     let j = c.in_ok-judgement.field-0.judgement in
     let o = c.in-Some-open.range in
     let said = said_behind c.passes.new.evaluator.items c.args.work.now.model.items c.passes.new.walk c.in_ok-judgement.field-0 o model c.in-Some-open.is c.in_ok-judgement.ensures.said in
-    let at = said_at c.args.work.now.test c.args.work.now.model.items c.args.walk.now.next c.args.walk.now.to n c.loop-finding.walk c.passes.new.walk j o c.loop-finding.finding c.loop-finding.invariant.counted here c.requires.range admitted said in
-    (few_ways c.args.work.now.test c.args.work.now.model.items c.args.walk.now.next c.args.walk.now.to n c.loop-finding.walk c.passes.new.walk c.slots-slots.result.now o c.graph-graph.result.now c.loop-finding.finding c.loop-finding.invariant.counted here at.alike at.at c.graph-graph.ensures at.within).1
+    let at = said_at c.args.work.now.test c.args.work.now.model.items c.args.walk.now.next c.args.walk.now.to n c.loop-gathering.walk c.passes.new.walk j o c.loop-gathering.gathering.finding c.loop-gathering.invariant.counted here c.requires.range admitted said in
+    (few_ways c.args.work.now.test c.args.work.now.model.items c.args.walk.now.next c.args.walk.now.to n c.loop-gathering.walk c.passes.new.walk c.slots-slots.result.now o c.graph-graph.result.now c.loop-gathering.gathering.finding c.loop-gathering.invariant.counted here at.alike at.at c.graph-graph.ensures at.within).1
 
 pub overflow_add-number : goal.overflow_add-number
 overflow_add-number c =
     let n = c.in-Some.number in
-    let hit = hit_number c.loop-finding.walk c.next.new.self c.in_ok-number.field-0 n c.in-Some.is c.in_ok-number.ensures.found in
+    let hit = hit_number c.loop-gathering.walk c.next.new.self c.in_ok-number.field-0 n c.in-Some.is c.in_ok-number.ensures.found in
     let same = not_passed c.in_ok-passes.field-0 (ArePassed c.rely-steady.new.evaluator.items n c.next.new.self c.passes.new.walk) (c.passes.new.walk ≡ c.next.new.self) c.if-branch.false c.in_ok-passes.ensures.passed in
-    let H : Walking → Type 0 = λ w. IsHit c.loop-finding.walk w n in
+    let H : Walking → Type 0 = λ w. IsHit c.loop-gathering.walk w n in
     let here = subst H (sym same) hit in
-    let model = c.passes.ensures.model ∙ (c.rely-steady.ensures.items ∙ c.loop-finding.invariant.model) in
+    let model = c.passes.ensures.model ∙ (c.rely-steady.ensures.items ∙ c.loop-gathering.invariant.model) in
     let admitted = subst (λ (z : WorkValue). IsAdmitted z.test) c.work-inner.ensures c.size.ensures.admitted in
     let j = c.in_ok-judgement.field-0.judgement in
     let o = c.in-Some-open.range in
     let said = said_behind c.passes.new.evaluator.items c.args.work.now.model.items c.passes.new.walk c.in_ok-judgement.field-0 o model c.in-Some-open.is c.in_ok-judgement.ensures.said in
-    let at = said_at c.args.work.now.test c.args.work.now.model.items c.args.walk.now.next c.args.walk.now.to n c.loop-finding.walk c.passes.new.walk j o c.loop-finding.finding c.loop-finding.invariant.counted here c.requires.range admitted said in
+    let at = said_at c.args.work.now.test c.args.work.now.model.items c.args.walk.now.next c.args.walk.now.to n c.loop-gathering.walk c.passes.new.walk j o c.loop-gathering.gathering.finding c.loop-gathering.invariant.counted here c.requires.range admitted said in
     let end = at.within.0 in
     let least = at.within.1 in
     let size = c.size-in-Some-open.ensures in
     omega (arith, end, least, size)
 
-pub loop-finding-preserved-in-Some-open : goal.loop-finding-preserved-in-Some-open
-loop-finding-preserved-in-Some-open c =
+pub loop-gathering-preserved-in-Some-open : goal.loop-gathering-preserved-in-Some-open
+loop-gathering-preserved-in-Some-open c =
     let w = c.args.work.now in
-    let inv = c.loop-finding.invariant in
+    let inv = c.loop-gathering.invariant in
     let n = c.in-Some.number in
-    let hit = hit_number c.loop-finding.walk c.next.new.self c.in_ok-number.field-0 n c.in-Some.is c.in_ok-number.ensures.found in
+    let hit = hit_number c.loop-gathering.walk c.next.new.self c.in_ok-number.field-0 n c.in-Some.is c.in_ok-number.ensures.found in
     let same = not_passed c.in_ok-passes.field-0 (ArePassed c.rely-steady.new.evaluator.items n c.next.new.self c.passes.new.walk) (c.passes.new.walk ≡ c.next.new.self) c.if-branch.false c.in_ok-passes.ensures.passed in
-    let H : Walking → Type 0 = λ w. IsHit c.loop-finding.walk w n in
+    let H : Walking → Type 0 = λ w. IsHit c.loop-gathering.walk w n in
     let here = subst H (sym same) hit in
-    let model = c.passes.ensures.model ∙ (c.rely-steady.ensures.items ∙ c.loop-finding.invariant.model) in
+    let model = c.passes.ensures.model ∙ (c.rely-steady.ensures.items ∙ c.loop-gathering.invariant.model) in
     let admitted = subst (λ (z : WorkValue). IsAdmitted z.test) c.work-inner.ensures c.size.ensures.admitted in
     let j = c.in_ok-judgement.field-0.judgement in
     let o = c.in-Some-open.range in
     let said = said_behind c.passes.new.evaluator.items c.args.work.now.model.items c.passes.new.walk c.in_ok-judgement.field-0 o model c.in-Some-open.is c.in_ok-judgement.ensures.said in
-    let at = said_at c.args.work.now.test c.args.work.now.model.items c.args.walk.now.next c.args.walk.now.to n c.loop-finding.walk c.passes.new.walk j o c.loop-finding.finding c.loop-finding.invariant.counted here c.requires.range admitted said in
+    let at = said_at c.args.work.now.test c.args.work.now.model.items c.args.walk.now.next c.args.walk.now.to n c.loop-gathering.walk c.passes.new.walk j o c.loop-gathering.gathering.finding c.loop-gathering.invariant.counted here c.requires.range admitted said in
     let next = c.pass.ensures.next ∙ ap (λ x. max c.passes.new.walk.next (min (n + x) c.passes.new.walk.to)) c.size-in-Some-open.ensures in
     record {
-      counted = walked_alike w.test w.model.items c.args.walk.now.next c.args.walk.now.to n c.loop-finding.walk c.passes.new.walk c.pass.new.self c.graph-graph.result.now c.slots-slots.result.now o j c.loop-finding.finding c.weigh_alike.new.self inv.counted here c.graph-graph.ensures inv.slots at.alike at.at at.judged at.within c.in_ok-weigh_alike.ensures c.pass.ensures.space c.pass.ensures.to next;
-      slots = inv.slots ∙ ap (map (slot_of w.test)) (sym (same_places j.allowed c.loop-finding.finding _ c.weigh_alike.new.self c.in_ok-weigh_alike.ensures));
+      counted = walked_alike w.test w.model.items c.args.walk.now.next c.args.walk.now.to n c.loop-gathering.walk c.passes.new.walk c.pass.new.self c.graph-graph.result.now c.slots-slots.result.now o j c.loop-gathering.gathering.finding c.weigh_alike.new.self.finding inv.counted here c.graph-graph.ensures inv.slots at.alike at.at at.judged at.within c.in_ok-weigh_alike.ensures.sum c.pass.ensures.space c.pass.ensures.to next;
+      kept = c.in_ok-weigh_alike.ensures.kept;
+      slots = inv.slots ∙ ap (map (slot_of w.test)) (sym (same_places j.allowed c.loop-gathering.gathering.finding _ c.weigh_alike.new.self.finding c.in_ok-weigh_alike.ensures.sum));
       steady = (let S : Choices → Type 0 = λ s. AreSteady s c.pass.new.self.next c.rely-steady.result c.judge.new.evaluator.relied in
           let on : n < c.pass.new.self.next = (let l = hit.step.next in let e = c.pass.ensures.next in let z = ap (λ (w : Walking). w.next) same in omega (arith, l, e, z)) in
           subst S (sym (c.pass.ensures.space ∙ ap (λ (w : Walking). w.space) same))
@@ -117,15 +118,16 @@ loop-finding-preserved-in-Some-open c =
       known = knows_alike _ _ _ _ c.passes.new.self c.judge.new.pruner (hit.step.space ∙ inv.counted.space) (c.rely-steady.ensures.items ∙ inv.model) c.judge.ensures.refuted (λ _. (let L : List Clause → Type 0 = λ z. AreLearned z c.judge.new.pruner.misplaced in subst L model c.judge.ensures.learned)) c.passes.ensures.known;
     }
 
-pub loop-finding-preserved-then-branch : goal.loop-finding-preserved-then-branch
-loop-finding-preserved-then-branch c =
-    let inv = c.loop-finding.invariant in
+pub loop-gathering-preserved-then-branch : goal.loop-gathering-preserved-then-branch
+loop-gathering-preserved-then-branch c =
+    let inv = c.loop-gathering.invariant in
     let n = c.in-Some.number in
-    let hit = hit_number c.loop-finding.walk c.next.new.self c.in_ok-number.field-0 n c.in-Some.is c.in_ok-number.ensures.found in
+    let hit = hit_number c.loop-gathering.walk c.next.new.self c.in_ok-number.field-0 n c.in-Some.is c.in_ok-number.ensures.found in
     let P : List Clause → Type 0 = λ items. ArePassed items n c.next.new.self c.passes.new.walk in
     let over = is_passed c.in_ok-passes.field-0 (P c.rely-steady.new.evaluator.items) (c.passes.new.walk ≡ c.next.new.self) c.if-branch.true c.in_ok-passes.ensures.passed in
     record {
-      counted = walked_over c.args.work.now.test c.args.work.now.model.items c.args.walk.now.next c.args.walk.now.to n c.loop-finding.walk c.next.new.self c.passes.new.walk c.loop-finding.finding inv.counted hit (subst P (c.rely-steady.ensures.items ∙ inv.model) over);
+      counted = walked_over c.args.work.now.test c.args.work.now.model.items c.args.walk.now.next c.args.walk.now.to n c.loop-gathering.walk c.next.new.self c.passes.new.walk c.loop-gathering.gathering.finding inv.counted hit (subst P (c.rely-steady.ensures.items ∙ inv.model) over);
+      kept = inv.kept;
       slots = inv.slots;
       steady = (let S : Choices → Type 0 = λ s. AreSteady s c.passes.new.walk.next c.rely-steady.result c.passes.new.evaluator.relied in
           subst S (sym over.space)
@@ -135,22 +137,23 @@ loop-finding-preserved-then-branch c =
       known = knows_alike _ _ _ _ c.passes.new.self c.passes.new.self (hit.step.space ∙ inv.counted.space) (c.rely-steady.ensures.items ∙ inv.model) refl (λ l. l) c.passes.ensures.known;
     }
 
-pub loop-finding-preserved : goal.loop-finding-preserved
-loop-finding-preserved c =
+pub loop-gathering-preserved : goal.loop-gathering-preserved
+loop-gathering-preserved c =
     let w = c.args.work.now in
-    let inv = c.loop-finding.invariant in
+    let inv = c.loop-gathering.invariant in
     let n = c.in-Some.number in
-    let hit = hit_number c.loop-finding.walk c.next.new.self c.in_ok-number.field-0 n c.in-Some.is c.in_ok-number.ensures.found in
+    let hit = hit_number c.loop-gathering.walk c.next.new.self c.in_ok-number.field-0 n c.in-Some.is c.in_ok-number.ensures.found in
     let same = not_passed c.in_ok-passes.field-0 (ArePassed c.rely-steady.new.evaluator.items n c.next.new.self c.passes.new.walk) (c.passes.new.walk ≡ c.next.new.self) c.if-branch.false c.in_ok-passes.ensures.passed in
-    let H : Walking → Type 0 = λ w. IsHit c.loop-finding.walk w n in
+    let H : Walking → Type 0 = λ w. IsHit c.loop-gathering.walk w n in
     let here = subst H (sym same) hit in
     let model = c.passes.ensures.model ∙ (c.rely-steady.ensures.items ∙ inv.model) in
     let j = c.in_ok-judgement.field-0.judgement in
     let said = said_alone c.passes.new.evaluator.items w.model.items c.passes.new.walk c.in_ok-judgement.field-0 model c.in_default-open.not-Some c.in_ok-judgement.ensures.said in
     let J : GraphValue → Type 0 = λ x. IsJudged w.model.items j x in
     record {
-      counted = walked_one w.test w.model.items c.args.walk.now.next c.args.walk.now.to n c.loop-finding.walk c.passes.new.walk c.graph-graph.result.now c.slots-slots.result.now j c.loop-finding.finding c.weigh.new.self inv.counted here c.graph-graph.ensures inv.slots (subst J (sym c.graph-graph.ensures) said) c.in_ok-weigh.ensures;
-      slots = inv.slots ∙ ap (map (slot_of w.test)) (sym (same_places j.allowed c.loop-finding.finding _ c.weigh.new.self c.in_ok-weigh.ensures));
+      counted = walked_one w.test w.model.items c.args.walk.now.next c.args.walk.now.to n c.loop-gathering.walk c.passes.new.walk c.graph-graph.result.now c.slots-slots.result.now j c.loop-gathering.gathering.finding c.weigh.new.self.finding inv.counted here c.graph-graph.ensures inv.slots (subst J (sym c.graph-graph.ensures) said) c.in_ok-weigh.ensures.sum;
+      kept = c.in_ok-weigh.ensures.kept;
+      slots = inv.slots ∙ ap (map (slot_of w.test)) (sym (same_places j.allowed c.loop-gathering.gathering.finding _ c.weigh.new.self.finding c.in_ok-weigh.ensures.sum));
       steady = (let W : Walking → Type 0 = λ w. AreSteady w.space w.next c.rely-steady.result c.judge.new.evaluator.relied in
           subst W (sym same)
           (steady_behind c.next.new.self.space n c.rely-steady.result c.next.new.self.next n c.next.new.self.shown c.rely-steady.new.evaluator.relied c.judge.new.evaluator.relied c.rely-steady.ensures.steady (omega arith) (let l = hit.step.next in omega (arith, l)) (let l = hit.step.next in omega (arith, l))
@@ -161,98 +164,98 @@ loop-finding-preserved c =
     }
 
 pub weigh-requires-clause-whole : goal.weigh-requires-clause-whole
-weigh-requires-clause-whole c = as_long c.args.work.now.test c.loop-finding.finding.places c.slots-slots.result.now (c.loop-finding.invariant.slots)
+weigh-requires-clause-whole c = as_long c.args.work.now.test c.loop-gathering.gathering.finding.places c.slots-slots.result.now (c.loop-gathering.invariant.slots)
 
 pub returns-clause-part : goal.returns-clause-part
 returns-clause-part c =
-    let miss = miss_number c.loop-finding.walk c.next.new.self c.in_ok-number.field-0 c.in_default.not-Some c.in_ok-number.ensures.found in
-    walked_none c.args.work.now.test c.args.work.now.model.items c.args.walk.now.next c.args.walk.now.to c.loop-finding.walk c.next.new.self c.loop-finding.finding c.loop-finding.invariant.counted miss
+    let miss = miss_number c.loop-gathering.walk c.next.new.self c.in_ok-number.field-0 c.in_default.not-Some c.in_ok-number.ensures.found in
+    walked_none c.args.work.now.test c.args.work.now.model.items c.args.walk.now.next c.args.walk.now.to c.loop-gathering.walk c.next.new.self c.loop-gathering.gathering.finding c.loop-gathering.invariant.counted miss
 
 pub rely-steady-requires : goal.rely-steady-requires
 rely-steady-requires c =
-    let inv = c.loop-finding.invariant in
+    let inv = c.loop-gathering.invariant in
     let n = c.in-Some.number in
-    let hit = hit_number c.loop-finding.walk c.next.new.self c.in_ok-number.field-0 n c.in-Some.is c.in_ok-number.ensures.found in
+    let hit = hit_number c.loop-gathering.walk c.next.new.self c.in_ok-number.field-0 n c.in-Some.is c.in_ok-number.ensures.found in
     record {
       found = hit.step.next;
       shown = (let S : Choices → Type 0 = λ s. graph_at s n ≡ Some c.next.new.self.shown in subst S (sym hit.step.space) hit.at);
-      steady = (let S : Choices → Type 0 = λ s. AreSteady s n c.loop-finding.steady c.loop-finding.evaluator.relied in
-          subst S (sym hit.step.space) (steady_from _ c.loop-finding.walk.next _ n _ hit.later inv.steady));
+      steady = (let S : Choices → Type 0 = λ s. AreSteady s n c.loop-gathering.steady c.loop-gathering.evaluator.relied in
+          subst S (sym hit.step.space) (steady_from _ c.loop-gathering.walk.next _ n _ hit.later inv.steady));
     }
 
 pub judge-requires : goal.judge-requires
 judge-requires c =
     let n = c.in-Some.number in
-    let hit = hit_number c.loop-finding.walk c.next.new.self c.in_ok-number.field-0 n c.in-Some.is c.in_ok-number.ensures.found in
+    let hit = hit_number c.loop-gathering.walk c.next.new.self c.in_ok-number.field-0 n c.in-Some.is c.in_ok-number.ensures.found in
     let same = not_passed c.in_ok-passes.field-0 (ArePassed c.rely-steady.new.evaluator.items n c.next.new.self c.passes.new.walk) (c.passes.new.walk ≡ c.next.new.self) c.if-branch.false c.in_ok-passes.ensures.passed in
-    let H : Walking → Type 0 = λ w. IsHit c.loop-finding.walk w n in
+    let H : Walking → Type 0 = λ w. IsHit c.loop-gathering.walk w n in
     let here = subst H (sym same) hit in
     let R : Walking → Type 0 = λ w. IfSome c.passes.new.evaluator.relied (λ r. r ≡ structure_of w.shown) in
     let L : List Clause → Type 0 = λ z. AreLearned z c.passes.new.self.misplaced in
     record {
-      shown = shown_at c.loop-finding.walk c.passes.new.walk n here;
+      shown = shown_at c.loop-gathering.walk c.passes.new.walk n here;
       relied = subst R (sym same) c.passes.ensures.relied;
-      model = c.passes.ensures.model ∙ (c.rely-steady.ensures.items ∙ c.loop-finding.invariant.model) ∙ sym (ap (λ (z : WorkValue). z.model.items) c.work-inner.ensures);
+      model = c.passes.ensures.model ∙ (c.rely-steady.ensures.items ∙ c.loop-gathering.invariant.model) ∙ sym (ap (λ (z : WorkValue). z.model.items) c.work-inner.ensures);
       learned = subst L (sym c.passes.ensures.model) c.passes.ensures.known.1;
     }
 
 pub passes-requires : goal.passes-requires
 passes-requires c =
-    let inv = c.loop-finding.invariant in
-    let hit = hit_number c.loop-finding.walk c.next.new.self c.in_ok-number.field-0 c.in-Some.number c.in-Some.is c.in_ok-number.ensures.found in
+    let inv = c.loop-gathering.invariant in
+    let hit = hit_number c.loop-gathering.walk c.next.new.self c.in_ok-number.field-0 c.in-Some.number c.in-Some.is c.in_ok-number.ensures.found in
     record {
       found = hit.step.next;
       relied = c.rely-steady.ensures.relied;
       shown = (let S : Choices → Type 0 = λ s. graph_at s c.in-Some.number ≡ Some c.next.new.self.shown in subst S (sym hit.step.space) hit.at);
-      known = knows_alike _ _ _ _ c.loop-finding.pruner c.loop-finding.pruner (sym (hit.step.space ∙ inv.counted.space)) (sym (c.rely-steady.ensures.items ∙ inv.model)) refl (λ l. l) inv.known;
+      known = knows_alike _ _ _ _ c.loop-gathering.pruner c.loop-gathering.pruner (sym (hit.step.space ∙ inv.counted.space)) (sym (c.rely-steady.ensures.items ∙ inv.model)) refl (λ l. l) inv.known;
     }
 
-pub loop-finding-smaller-then-branch : goal.loop-finding-smaller-then-branch
-loop-finding-smaller-then-branch c =
-    let hit = hit_number c.loop-finding.walk c.next.new.self c.in_ok-number.field-0 c.in-Some.number c.in-Some.is c.in_ok-number.ensures.found in
+pub loop-gathering-smaller-then-branch : goal.loop-gathering-smaller-then-branch
+loop-gathering-smaller-then-branch c =
+    let hit = hit_number c.loop-gathering.walk c.next.new.self c.in_ok-number.field-0 c.in-Some.number c.in-Some.is c.in_ok-number.ensures.found in
     let over = is_passed c.in_ok-passes.field-0 (ArePassed c.rely-steady.new.evaluator.items c.in-Some.number c.next.new.self c.passes.new.walk) (c.passes.new.walk ≡ c.next.new.self) c.if-branch.true c.in_ok-passes.ensures.passed in
-    walk_nearer c.in-Some.number c.loop-finding.walk c.passes.new.walk (over.to ∙ hit.step.to) over.later hit.later hit.below
+    walk_nearer c.in-Some.number c.loop-gathering.walk c.passes.new.walk (over.to ∙ hit.step.to) over.later hit.later hit.below
 
-pub loop-finding-smaller-in-Some-open : goal.loop-finding-smaller-in-Some-open
-loop-finding-smaller-in-Some-open c =
+pub loop-gathering-smaller-in-Some-open : goal.loop-gathering-smaller-in-Some-open
+loop-gathering-smaller-in-Some-open c =
     let n = c.in-Some.number in
-    let hit = hit_number c.loop-finding.walk c.next.new.self c.in_ok-number.field-0 n c.in-Some.is c.in_ok-number.ensures.found in
+    let hit = hit_number c.loop-gathering.walk c.next.new.self c.in_ok-number.field-0 n c.in-Some.is c.in_ok-number.ensures.found in
     let same = not_passed c.in_ok-passes.field-0 (ArePassed c.rely-steady.new.evaluator.items n c.next.new.self c.passes.new.walk) (c.passes.new.walk ≡ c.next.new.self) c.if-branch.false c.in_ok-passes.ensures.passed in
-    let H : Walking → Type 0 = λ w. IsHit c.loop-finding.walk w n in
+    let H : Walking → Type 0 = λ w. IsHit c.loop-gathering.walk w n in
     let here = subst H (sym same) hit in
     let step = here.step.next in
     let next = c.pass.ensures.next in
-    walk_nearer n c.loop-finding.walk c.pass.new.self (c.pass.ensures.to ∙ here.step.to) (omega (arith, step, next)) hit.later hit.below
+    walk_nearer n c.loop-gathering.walk c.pass.new.self (c.pass.ensures.to ∙ here.step.to) (omega (arith, step, next)) hit.later hit.below
 
-pub loop-finding-smaller : goal.loop-finding-smaller
-loop-finding-smaller c =
-    let hit = hit_number c.loop-finding.walk c.next.new.self c.in_ok-number.field-0 c.in-Some.number c.in-Some.is c.in_ok-number.ensures.found in
+pub loop-gathering-smaller : goal.loop-gathering-smaller
+loop-gathering-smaller c =
+    let hit = hit_number c.loop-gathering.walk c.next.new.self c.in_ok-number.field-0 c.in-Some.number c.in-Some.is c.in_ok-number.ensures.found in
     let same = not_passed c.in_ok-passes.field-0 (ArePassed c.rely-steady.new.evaluator.items c.in-Some.number c.next.new.self c.passes.new.walk) (c.passes.new.walk ≡ c.next.new.self) c.if-branch.false c.in_ok-passes.ensures.passed in
-    let H : Walking → Type 0 = λ w. IsHit c.loop-finding.walk w c.in-Some.number in
+    let H : Walking → Type 0 = λ w. IsHit c.loop-gathering.walk w c.in-Some.number in
     let here = subst H (sym same) hit in
-    walk_nearer c.in-Some.number c.loop-finding.walk c.passes.new.walk here.step.to (let next = here.step.next in omega (arith, next)) hit.later hit.below
+    walk_nearer c.in-Some.number c.loop-gathering.walk c.passes.new.walk here.step.to (let next = here.step.next in omega (arith, next)) hit.later hit.below
 
 pub returns-in_err-weigh_alike-clause-evaluator : goal.returns-in_err-weigh_alike-clause-evaluator
-returns-in_err-weigh_alike-clause-evaluator c = c.in_ok-judgement.ensures.model ∙ c.in_ok-passes.ensures.model ∙ c.rely-steady.ensures.items ∙ c.loop-finding.invariant.model ∙ sym c.requires.evaluator
+returns-in_err-weigh_alike-clause-evaluator c = c.in_ok-judgement.ensures.model ∙ c.in_ok-passes.ensures.model ∙ c.rely-steady.ensures.items ∙ c.loop-gathering.invariant.model ∙ sym c.requires.evaluator
 
 pub returns-in_err-weigh-clause-evaluator : goal.returns-in_err-weigh-clause-evaluator
-returns-in_err-weigh-clause-evaluator c = c.in_ok-judgement.ensures.model ∙ c.in_ok-passes.ensures.model ∙ c.rely-steady.ensures.items ∙ c.loop-finding.invariant.model ∙ sym c.requires.evaluator
+returns-in_err-weigh-clause-evaluator c = c.in_ok-judgement.ensures.model ∙ c.in_ok-passes.ensures.model ∙ c.rely-steady.ensures.items ∙ c.loop-gathering.invariant.model ∙ sym c.requires.evaluator
 
 pub returns-in_err-judgement-clause-evaluator : goal.returns-in_err-judgement-clause-evaluator
-returns-in_err-judgement-clause-evaluator c = c.judge.ensures.model ∙ c.in_ok-passes.ensures.model ∙ c.rely-steady.ensures.items ∙ c.loop-finding.invariant.model ∙ sym c.requires.evaluator
+returns-in_err-judgement-clause-evaluator c = c.judge.ensures.model ∙ c.in_ok-passes.ensures.model ∙ c.rely-steady.ensures.items ∙ c.loop-gathering.invariant.model ∙ sym c.requires.evaluator
 
 pub returns-clause-evaluator : goal.returns-clause-evaluator
-returns-clause-evaluator c = c.loop-finding.invariant.model ∙ sym c.requires.evaluator
+returns-clause-evaluator c = c.loop-gathering.invariant.model ∙ sym c.requires.evaluator
 
 pub returns-in_err-passes-clause-evaluator : goal.returns-in_err-passes-clause-evaluator
-returns-in_err-passes-clause-evaluator c = c.passes.ensures.model ∙ c.rely-steady.ensures.items ∙ c.loop-finding.invariant.model ∙ sym c.requires.evaluator
+returns-in_err-passes-clause-evaluator c = c.passes.ensures.model ∙ c.rely-steady.ensures.items ∙ c.loop-gathering.invariant.model ∙ sym c.requires.evaluator
 
 pub returns-in_err-number-clause-evaluator : goal.returns-in_err-number-clause-evaluator
-returns-in_err-number-clause-evaluator c = c.loop-finding.invariant.model ∙ sym c.requires.evaluator
+returns-in_err-number-clause-evaluator c = c.loop-gathering.invariant.model ∙ sym c.requires.evaluator
 
 pub weigh-requires-clause-few : goal.weigh-requires-clause-few
 weigh-requires-clause-few c =
-    let counted = c.loop-finding.invariant.counted in
-    let hit = hit_number c.loop-finding.walk c.next.new.self c.in_ok-number.field-0 c.in-Some.number c.in-Some.is c.in_ok-number.ensures.found in
+    let counted = c.loop-gathering.invariant.counted in
+    let hit = hit_number c.loop-gathering.walk c.next.new.self c.in_ok-number.field-0 c.in-Some.number c.in-Some.is c.in_ok-number.ensures.found in
     let admitted = subst (λ (z : WorkValue). IsAdmitted z.test) c.work-inner.ensures c.size.ensures.admitted in
     omega (arith, counted.few, counted.to_is, hit.later, hit.below, c.requires.range.within, admitted.few)
