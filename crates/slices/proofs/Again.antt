@@ -16,10 +16,13 @@ use Rattle.slices.proofs.Unions.{union_none}
 
 union_in : (xs : List (List ℕ)) (k : List ℕ) → IsIn k xs → IsUnion xs (k ∷ []) xs
 union_in xs k p = record {
-  members = λ s. ((λ q. inl q), (λ h. elim h [
-    | inl q ↦ q
-    | inr q ↦ elim q [ inl e ↦ (let P : List ℕ → Type 0 = λ y. IsIn y xs in subst P (sym e) p) | inr n ↦ absurd n ]
-  ]));
+  members = λ s. (
+    (λ q. inl q),
+    (λ h. elim h [
+      | inl q ↦ q
+      | inr q ↦ elim q [ inl e ↦ (let P : List ℕ → Type 0 = λ y. IsIn y xs in subst P (sym e) p) | inr n ↦ absurd n ]
+    ]),
+  );
   sorted = λ h. h;
 }
 
@@ -52,8 +55,7 @@ room_still v w sum base h room = subst (λ n. base ^ n ≤ 2 ^ 63) (sym (as_wide
 -- so is what was found now
 pub known_now : (v sum : FindingValue) (base n times : ℕ) (row : List ℕ) (has : Bool) → IsSum v (of_state v row times []) sum → length v.places ≡ length row → HasNumber base row (Some n) → has ≡ state_has v row → IsKnown sum base (record { number = n; has = has })
 known_now v sum base n times row has h whole number is other long digits e =
-    let same : other ≡ row = same_number base other row digits number.0 (long ∙ as_wide v (of_state v row times []) sum h ∙ whole) (e ∙ number.1) in
-    (
+    let same : other ≡ row = same_number base other row digits number.0 (long ∙ as_wide v (of_state v row times []) sum h ∙ whole) (e ∙ number.1) in (
       subst (λ s. IsIn s sum.states) (sym same) ((h.states.members row).1 (inr (inl refl))),
       is ∙ sym (has_still v (of_state v row times []) sum row h) ∙ ap (state_has sum) (sym same),
     )

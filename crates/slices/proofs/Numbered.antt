@@ -97,3 +97,8 @@ room_less zero m n l room =
 room_less (suc b) m n l room =
     let less : suc b ^ (m + 1) ≤ suc b ^ n = pow-le-pow_right {n = suc b} (omega arith) {i = m + 1} {j = n} (omega (arith, l)) in
     omega (arith, less, room)
+
+-- where nothing is a digit
+pub no_digits : (n : ℕ) → 0 ^ n ≤ 2 ^ 63
+no_digits zero = let e : 0 ^ 0 ≡ 1 = pow-zero 0 in omega (arith, e)
+no_digits (suc n) = let e : 0 ^ suc n ≡ 0 = pow-suc 0 n ∙ mul-zero (0 ^ n) in omega (arith, e)

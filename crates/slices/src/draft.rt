@@ -18,10 +18,17 @@ pub(crate) struct Draft {
     pub(crate) number: Option<u64>,
 }
 
+/// Of a state at more places no number is made: it takes a while to make, and most of these states come but once.
+const MOST_PLACES: usize = 8;
+
 /// The base of numbers with so many digits, of which the greatest has 63 bits at most.
+#[tactic(auto, using(crate::proofs::Numbered::no_digits))]
 fn base_for(places: usize) -> u64
     ensures { result ^ places ≤ 2 ^ 63 }
 {
+    if places > MOST_PLACES {
+        return 0;
+    }
     if places < 2 {
         return 1 << 32;
     }
