@@ -14,11 +14,11 @@ use Rattle.listings.proofs.Listings.{in_append, in_left, in_right}
 use Rattle.litmus_tree.specs.Tree.{Litmus, Word}
 use Rattle.slices.specs.Finals.{obs, has}
 use Rattle.slices.specs.Findings.{FindingValue}
-use Rattle.slices.specs.Sums.{AddsUp, IsSum, IsUnion, nothing_of, of_flags, of_state, state_has}
+use Rattle.slices.specs.Sums.{AddsUp, IsSum, IsUnion, nothing_of, of_flags}
 use Rattle.slices.specs.Verdicts.{AreSorted, IsRaised, Tells}
 use Rattle.slices.proofs.Members.{count-append, count-cons}
 use Rattle.slices.proofs.Sorted.{once_sorted}
-use Rattle.slices.proofs.Unions.{union_none, union_union}
+use Rattle.slices.proofs.Unions.{union_union}
 
 -- zs has what xs and ys have
 pub record AreBoth {X : Type 0} (xs ys zs : List X) : Type 0 where
@@ -191,24 +191,3 @@ on_ok (Err e) f p = tt
 
 pub findings_merged : (v w : FindingValue) (states flags : List (List ℕ)) → IsUnion v.states w.states states → IsUnion v.flags w.flags flags → IsSum v w (record v { positive = v.positive + w.positive; negative = v.negative + w.negative; states = states; flags = flags })
 findings_merged v w states flags s f = record { same = refl; positive = refl; negative = refl; states = s; flags = f }
-
-state_cases : (b : Bool) (v : FindingValue) (state : List ℕ) (times : ℕ) (keys : List (List ℕ)) → state_has v state ≡ b → IsUnion v.states (state ∷ []) keys → IsSum v (of_state v state times []) (record v { positive = v.positive + cond b times 0; negative = v.negative + cond b 0 times; states = keys })
-state_cases b v state times keys e h = record {
-  same = refl;
-  positive = ap (λ c. v.positive + cond c times 0) (sym e);
-  negative = ap (λ c. v.negative + cond c 0 times) (sym e);
-  states = h;
-  flags = union_none v.flags;
-}
-
-pub state_yes : (v : FindingValue) (state : List ℕ) (times : ℕ) (keys : List (List ℕ)) → state_has v state ≡ true → IsUnion v.states (state ∷ []) keys → IsSum v (of_state v state times []) (record v { positive = v.positive + times; states = keys })
-state_yes v state times keys e h =
-    let S : ℕ → Type 0 = λ n. IsSum v (of_state v state times []) (record v { positive = v.positive + times; negative = n; states = keys }) in
-    let z : v.negative + 0 ≡ v.negative = omega arith in
-    subst S z (state_cases true v state times keys e h)
-
-pub state_no : (v : FindingValue) (state : List ℕ) (times : ℕ) (keys : List (List ℕ)) → state_has v state ≡ false → IsUnion v.states (state ∷ []) keys → IsSum v (of_state v state times []) (record v { negative = v.negative + times; states = keys })
-state_no v state times keys e h =
-    let S : ℕ → Type 0 = λ n. IsSum v (of_state v state times []) (record v { positive = n; negative = v.negative + times; states = keys }) in
-    let z : v.positive + 0 ≡ v.positive = omega arith in
-    subst S z (state_cases false v state times keys e h)
