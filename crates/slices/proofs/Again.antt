@@ -1,5 +1,5 @@
 -- Final states that are found again, or for the first time.
-use Rattle.std.proofs.Common.{◌≡◌, ℕ, ◌+◌, ◌^◌, ◌≤◌, List, [], ◌∷◌, length, Bool, refl, sym, ap, ◌∙◌, subst, inl, inr}
+use Rattle.std.proofs.Common.{◌≡◌, ℕ, ◌^◌, ◌≤◌, List, [], ◌∷◌, length, Bool, refl, sym, ap, ◌∙◌, subst, inl, inr}
 use Rattle.std.specs.Prelude.{Some}
 use Rattle.listings.specs.Lists.{IsIn}
 use Rattle.slices.specs.Counts.{with_count}
@@ -9,7 +9,6 @@ use Rattle.slices.specs.Numbers.{HasNumber}
 use Rattle.slices.specs.Recents.{AreKnown, IsKnown}
 use Rattle.slices.specs.Sums.{IsSum, IsUnion, of_state, state_has}
 use Rattle.slices.specs.declared.gathering.Gathering.{Gathering}
-use Rattle.slices.specs.declared.recent.Known.{Known}
 use Rattle.slices.specs.declared.recent.Recent.{Recent}
 use Rattle.slices.proofs.Numbered.{same_number}
 use Rattle.slices.proofs.Unions.{union_none}

@@ -1,7 +1,7 @@
 -- Numbers whose digits are the values of a final state.
-use Rattle.std.proofs.Common.{◌≡◌, ℕ, zero, suc, ◌+◌, ◌*◌, ◌/◌, ◌%◌, ◌^◌, ◌<◌, ◌≤◌, List, [], ◌∷◌, ◌++◌, length, Option, refl, sym, ap, ◌∙◌, subst, arith}
-use Rattle.std.specs.Prelude.{Some, None, IfSome}
-use Rattle.std.proofs.Math.Nat.{div-le_self, mod-eq_of_lt, mul_assoc, mul_comm, one-mul, mul-one, mul-zero, pow-zero, mul-le-mul_right, div-mul-le_self, one-le-pow, pow-le-pow_right, pow-suc, pow-succ'}
+use Rattle.std.proofs.Common.{◌≡◌, ℕ, zero, suc, ◌+◌, ◌*◌, ◌/◌, ◌%◌, ◌^◌, ◌<◌, ◌≤◌, List, [], ◌∷◌, ◌++◌, length, refl, sym, ap, ◌∙◌, subst, arith}
+use Rattle.std.specs.Prelude.{Some}
+use Rattle.std.proofs.Math.Nat.{div-le_self, mod-eq_of_lt, mul_assoc, mul_comm, one-mul, mul-one, mul-zero, pow-zero, pow-le-pow_right, pow-suc, pow-succ'}
 use Rattle.std.proofs.Math.Pow.{pow-lt, pow_mono}
 use Rattle.std.proofs.lemmas.Grind.{pow_more}
 use Rattle.std.proofs.lemmas.Nat.{div-mul-add, mul-add-lt, pow-add}

@@ -1,14 +1,12 @@
 -- Final states that were found last.
-use Rattle.std.proofs.Common.{◌≡◌, ◌⊎◌, ℕ, zero, suc, ◌+◌, ◌^◌, ◌<◌, ◌≤◌, List, [], ◌∷◌, length, replicate, get_or, refl, sym, ap, ◌∙◌, subst, inl, inr, arith}
+use Rattle.std.proofs.Common.{◌≡◌, ◌⊎◌, ℕ, zero, suc, ◌^◌, ◌<◌, ◌≤◌, List, [], ◌∷◌, length, replicate, sym, subst, inl, inr, arith}
 use Rattle.std.specs.Prelude.{slice_set}
 use Rattle.listings.specs.Lists.{IsIn}
 use Rattle.slices.specs.Findings.{FindingValue}
-use Rattle.slices.specs.Sums.{state_has}
 use Rattle.slices.specs.declared.recent.Known.{Known}
-use Rattle.slices.specs.declared.recent.Recent.{Recent}
-use Rattle.slices.specs.Numbers.{AreDigits, with_values}
-use Rattle.slices.specs.Recents.{AreKnown, IsKnown}
-use Rattle.slices.proofs.Numbered.{number_below, same_number}
+use Rattle.slices.specs.Numbers.{with_values}
+use Rattle.slices.specs.Recents.{IsKnown}
+use Rattle.slices.proofs.Numbered.{number_below}
 
 -- no state has this number
 pub none_known : (v : FindingValue) (base : ℕ) (k : Known) → base ^ length v.places ≤ 2 ^ 63 → k.number ≡ 18446744073709551615 → IsKnown v base k

@@ -1,7 +1,6 @@
 -- What is found while executions are counted. No statement on what is found rests on this.
-use Rattle.std.specs.Prelude.{ℕ, ◌+◌, ◌^◌, ◌≤◌, Bool, length, if◌then◌else◌}
+use Rattle.std.specs.Prelude.{◌^◌, ◌≤◌, length}
 use Rattle.slices.specs.declared.gathering.Gathering.{Gathering}
-use Rattle.slices.specs.Findings.{FindingValue}
 use Rattle.slices.specs.Recents.{AreKnown}
 
 -- The states that were found last are known, and there is room for the number of each.

@@ -7,15 +7,16 @@ use Rattle.candidates.specs.Candidates.{Choices, choices_of, graph_at}
 use Rattle.candidates.specs.Walks.{IsHit, Walking}
 use Rattle.events.specs.Executions.{GraphValue}
 use Rattle.events.specs.Structures.{structure_of}
+use Rattle.slices.specs.Findings.{FindingValue}
 use Rattle.slices.specs.Judgements.{IsJudged}
 use Rattle.slices.specs.Misplaced.{AreLearned}
-use Rattle.slices.specs.Parts.{IsAdmitted}
+use Rattle.slices.specs.Parts.{IsAdmitted, IsPart}
 use Rattle.slices.specs.Passing.{ArePassed}
 use Rattle.slices.specs.Slots.{slot_of}
 use Rattle.slices.specs.Steady.{AreSteady}
 use Rattle.slices.specs.Verdicts.{Tells}
 use Rattle.slices.specs.Works.{WorkValue}
-use Rattle.slices.proofs.Counted.{walked_none_yet, walked_none}
+use Rattle.slices.proofs.Counted.{IsUnderWay, walked_none_yet, walked_none}
 use Rattle.slices.proofs.Judging.{said_alone, said_behind}
 use Rattle.slices.proofs.PassedOver.{hit_number, is_passed, knows_alike, miss_number, not_passed, shown_at, walk_nearer, walked_on, walked_over}
 use Rattle.slices.proofs.Steadily.{steady_behind, steady_from, steady_nowhere}
@@ -28,14 +29,26 @@ loop-gathering-init c =
     let T : WorkValue → Type 0 = λ z. Tells z.test w.model.items [] c.in_ok-finding.finding in
     let begun = walked_none_yet w.test w.model.items c.args.walk.now.next c.args.walk.now.to c.args.walk.now c.in_ok-finding.finding
     c.requires.space refl refl (subst T c.in_ok-share.ensures (c.in_ok-finding.ensures w.model.items)) in
+    let same = c.new-gathering.ensures.finding in
+    let U : FindingValue → Type 0 = λ f. IsUnderWay w.test w.model.items c.args.walk.now.next c.args.walk.now.to c.begin.new.walk f in
+    let P : FindingValue → Type 0 = λ f. c.slots-slots.result.now ≡ map (slot_of w.test) f.places in
     let over = c.begin.ensures.passed w.model.items (knows_alike _ _ _ _ c.args.pruner.now c.args.pruner.now (sym c.requires.space) refl refl (λ l. l) c.requires.known) in
     record {
-      counted = walked_on w.test w.model.items c.args.walk.now.next c.args.walk.now.to c.args.walk.now c.begin.new.walk c.in_ok-finding.finding begun over;
-      slots = (let told = subst T c.in_ok-share.ensures (c.in_ok-finding.ensures w.model.items) in let S : WorkValue → Type 0 = λ z. (ps : List Place) → AreObserved z.test.condition z.test.listed ps → c.slots-slots.result.now ≡ map (slot_of z.test) ps in subst S c.work-inner.ensures c.slots-slots.ensures c.in_ok-finding.finding.places told.places);
+      counted = subst U (sym same) (walked_on w.test w.model.items c.args.walk.now.next c.args.walk.now.to c.args.walk.now c.begin.new.walk c.in_ok-finding.finding begun over);
+      kept = c.new-gathering.ensures.kept;
+      slots = subst P (sym same) (let told = subst T c.in_ok-share.ensures (c.in_ok-finding.ensures w.model.items) in let S : WorkValue → Type 0 = λ z. (ps : List Place) → AreObserved z.test.condition z.test.listed ps → c.slots-slots.result.now ≡ map (slot_of z.test) ps in subst S c.work-inner.ensures c.slots-slots.ensures c.in_ok-finding.finding.places told.places);
       model = c.requires.evaluator;
       steady = steady_nowhere _ _ _ _ (omega arith);
       known = knows_alike (choices_of w.test) (choices_of w.test) w.model.items w.model.items c.args.pruner.now c.begin.new.self refl refl c.begin.ensures.refuted (subst (AreLearned w.model.items) (sym c.begin.ensures.misplaced)) c.requires.known;
     }
+
+pub new-gathering-requires : goal.new-gathering-requires
+new-gathering-requires c =
+    let w = c.args.work.now in
+    let T : WorkValue → Type 0 = λ z. Tells z.test w.model.items [] c.in_ok-finding.finding in
+    let told = subst T c.in_ok-share.ensures (c.in_ok-finding.ensures w.model.items) in
+    let S : WorkValue → Type 0 = λ z. (ps : List Place) → AreObserved z.test.condition z.test.listed ps → c.slots-slots.result.now ≡ map (slot_of z.test) ps in
+    as_long w.test c.in_ok-finding.finding.places c.slots-slots.result.now (subst S c.work-inner.ensures c.slots-slots.ensures c.in_ok-finding.finding.places told.places)
 
 pub weigh_alike-requires-clause-whole : goal.weigh_alike-requires-clause-whole
 weigh_alike-requires-clause-whole c = as_long c.args.work.now.test c.loop-gathering.gathering.finding.places c.slots-slots.result.now (c.loop-gathering.invariant.slots)
@@ -169,7 +182,8 @@ weigh-requires-clause-whole c = as_long c.args.work.now.test c.loop-gathering.ga
 pub returns-clause-part : goal.returns-clause-part
 returns-clause-part c =
     let miss = miss_number c.loop-gathering.walk c.next.new.self c.in_ok-number.field-0 c.in_default.not-Some c.in_ok-number.ensures.found in
-    walked_none c.args.work.now.test c.args.work.now.model.items c.args.walk.now.next c.args.walk.now.to c.loop-gathering.walk c.next.new.self c.loop-gathering.gathering.finding c.loop-gathering.invariant.counted miss
+    let P : FindingValue → Type 0 = IsPart c.args.work.now.test c.args.work.now.model.items c.args.walk.now.next c.args.walk.now.to in
+    subst P (sym c.into_finding.ensures) (walked_none c.args.work.now.test c.args.work.now.model.items c.args.walk.now.next c.args.walk.now.to c.loop-gathering.walk c.next.new.self c.loop-gathering.gathering.finding c.loop-gathering.invariant.counted miss)
 
 pub rely-steady-requires : goal.rely-steady-requires
 rely-steady-requires c =

@@ -1,6 +1,6 @@
 use Rattle.slices.specs.Numbers.{HasNumber}
 use Rattle.std.specs.Prelude.{Some}
-use Rattle.std.proofs.Common.{refl, ◌≡◌, ◌+◌, ◌^◌, ◌≤◌, length, sym, ap, ◌∙◌, subst, arith}
+use Rattle.std.proofs.Common.{refl, ◌+◌, ◌^◌, ◌≤◌, length, sym, ◌∙◌, subst}
 use Rattle.slices.specs.Slots.{slot_by}
 use Rattle.slices.proofs.Mapped.{mapped_all, mapped_many, mapped_more}
 use Rattle.slices.proofs.Numbered.{room_less}

@@ -1,5 +1,5 @@
-use Rattle.std.proofs.Common.{◌≡◌, List, ℕ, [], Bool, Option, refl, sym, ap, ◌∙◌, subst}
-use Rattle.std.specs.Prelude.{Some, IfSome}
+use Rattle.std.proofs.Common.{List, ℕ, [], Bool, Option, refl, sym, ap, ◌∙◌, subst}
+use Rattle.std.specs.Prelude.{IfSome}
 use Rattle.slices.specs.Numbers.{HasNumber}
 use Rattle.slices.specs.Recents.{IsKnown}
 use Rattle.slices.specs.Sums.{IsSum, of_state, state_has}

@@ -6,12 +6,12 @@ use Rattle.slices.specs.Sums.{IsSum}
 use Rattle.slices.specs.Ways.{count_of_ways}
 use Rattle.slices.proofs.gathering.Gathering.add_ways.Given as goal
 
-abbrev pub invariant-loop-number : goal.invariant-loop-number
-invariant-loop-number l = record {
+abbrev pub invariant-loop-times : goal.invariant-loop-times
+invariant-loop-times l = record {
   kept : IsKept l.self;
   added : IsSum l.fn.self.finding (of_states l.fn.self.finding (weight_at l.ways) (row_by l.graph l.slots l.ways) l.number []) l.self.finding;
   within : l.number ≤ product_by count_of_ways l.ways;
 }
 
-abbrev pub decreases-loop-number : goal.decreases-loop-number
-decreases-loop-number l = product_by count_of_ways l.ways - l.number
+abbrev pub decreases-loop-times : goal.decreases-loop-times
+decreases-loop-times l = product_by count_of_ways l.ways - l.number
