@@ -1,5 +1,5 @@
 -- Pairs of events that are added to a relation by their numbers.
-use Rattle.std.proofs.Common.{◌≡◌, ℕ, ◌+◌, ◌<◌, ◌≤◌, ◌⊎◌, List, length, get_or, refl, sym, ◌∙◌, subst, inl, inr, arith}
+use Rattle.std.proofs.Common.{◌≡◌, ℕ, zero, suc, ◌+◌, ◌<◌, ◌≤◌, ◌⊎◌, List, [], ◌∷◌, length, get_or, refl, sym, ◌∙◌, subst, inl, inr, arith}
 use Rattle.std.specs.List.{All}
 use Rattle.std.proofs.lemmas.List.Elements.{All-get_or}
 use Rattle.std.proofs.lemmas.Bool.{cases_eq}
@@ -8,11 +8,13 @@ use Rattle.listings.proofs.Listings.{one_place, place_of}
 use Rattle.relations.specs.Events.{EventSet, Has, IsExactlySet, IsCanonicalSet}
 use Rattle.relations.specs.Relation.{Relation, In, IsExactly, IsCanonical}
 use Rattle.relations.specs.Equality.{reworded_set, reworded}
+use Rattle.events.specs.declared.cut.Excerpt.{Excerpt}
 use Rattle.events.specs.declared.event.EventId.{EventId}
 use Rattle.events.specs.declared.event.EventId.TheVariants.{Initial}
 use Rattle.events.specs.declared.named.RelName.TheVariants.{Rf, Co}
+use Rattle.events.specs.Cuts.{excerpt_of}
 use Rattle.events.specs.Executions.{GraphValue, IsNamed}
-use Rattle.events.specs.Named.{event_names, event_count, read_names, IsNumber, NamedRel, ReadsFrom, StandsBefore, StandsFrom}
+use Rattle.events.specs.Named.{event_names, event_count, read_names, IsNumber, NamedRel, ReadsFrom, IsCoherenceBefore, StandsBefore, StandsFrom}
 use Rattle.events.specs.Structures.{with_sources}
 use Rattle.events.specs.Rows.{ByNumbers, IsBehind, StandsBeforeFrom, IsBeforeAmong, ReadsAmong, IsReadAt}
 use Rattle.events.proofs.Numbers.{names_listed, counted}
@@ -208,6 +210,21 @@ orders_done n g x r l h =
     reworded n (ByNumbers g (IsBeforeAmong g x)) (NamedRel g Co) r
     (λ i j y. (let z : IsBeforeAmong g x y.0 y.1 = y.4 in (y.0, y.1, y.2, y.3, (z.0, z.1, z.3, z.4))))
     (λ i j a b y. (y.0, y.1, y.2, y.3, (y.4.0, y.4.1, omega (arith, l, stands_below g.co y.4.0 y.4.1 y.4.2), y.4.2, y.4.3))) h
+
+only_order : (order : List EventId) (x : ℕ) (o : List EventId) (d e : EventId) → StandsAt (order ∷ []) x o → StandsBefore o d e → StandsBefore order d e
+only_order order zero o d e s b = (let P : List EventId → Type 0 = λ z. StandsBefore z d e in subst P s b)
+only_order order (suc x) o d e s b = absurd s
+
+-- the order of an excerpt
+pub one_order : (n : ℕ) (g : GraphValue) (x : Excerpt) (r t : Relation) → IsExactly n (λ i j. ⊥) r → IsExactly n (λ i j. In r i j ⊎ ByNumbers g (StandsBefore x.order.now) i j) t → IsExactly n (NamedRel (excerpt_of g x) Co) t
+unfolding NamedRel
+one_order n g x r t h k =
+    reworded n (λ i j. In r i j ⊎ ByNumbers g (StandsBefore x.order.now) i j) (NamedRel (excerpt_of g x) Co) t
+    (λ i j y. elim y [
+      | inl z ↦ absurd (h.only i j z)
+      | inr z ↦ (z.0, z.1, z.2, z.3, (0, x.order.now, refl, z.4))
+    ])
+    (λ i j a b y. (let z : IsCoherenceBefore (excerpt_of g x) y.0 y.1 = y.4 in inr (y.0, y.1, y.2, y.3, only_order x.order.now z.0 z.1 y.0 y.1 z.2 z.3))) k
 
 pub reads_begun : (n : ℕ) (g : GraphValue) (rf : List EventId) (r : Relation) → IsExactly n (λ i j. ⊥) r → IsExactly n (ByNumbers g (ReadsAmong g rf 0)) r
 reads_begun n g rf r h =

@@ -1,5 +1,5 @@
 -- What extension does to sets and relations.
-use Rattle.std.proofs.Common.{◌≡◌, ◌↔◌, ℕ, zero, suc, ◌+◌, ◌≤◌, List, [], ◌∷◌, ◌++◌, sym, ◌∙◌, subst, inl, inr, arith}
+use Rattle.std.proofs.Common.{◌≡◌, ◌↔◌, ◌⊎◌, ℕ, zero, suc, ◌+◌, ◌≤◌, List, [], ◌∷◌, sym, ◌∙◌, subst, inl, inr, arith}
 use Rattle.listings.specs.Lists.{StandsAt}
 use Rattle.events.specs.declared.event.EventId.{EventId}
 use Rattle.events.specs.declared.named.SetName.{SetName}
@@ -9,12 +9,12 @@ use Rattle.events.specs.Bases.{basis_of}
 use Rattle.events.specs.Executions.{GraphValue, ThreadRun, IsNamed, IsGraph}
 use Rattle.events.specs.Named.{ReadsFrom, IsCoherenceBefore, StandsFrom, StandsBefore, NamedSet, NamedRel}
 use Rattle.events.specs.Structures.{structure_of}
-use Rattle.events.proofs.Bases.{same_sets, same_on_runs, all_within}
+use Rattle.events.proofs.Bases.{same_sets, same_on_runs, all_kept}
 use Rattle.events.proofs.Shapes.{reads_same}
 use Rattle.events.proofs.Structures.{same_structure}
 use Rattle.std.specs.List.{All}
 use Rattle.std.proofs.lemmas.List.Elements.{All-nil, All-cons, All-head, All-tail}
-use Rattle.events.specs.Extends.{Begins, IsPart, IsPartOfOne, Extends}
+use Rattle.events.specs.Extends.{IsNobody, IsPart, IsPartOfOne, Extends}
 
 pub one_structure : (g h : GraphValue) → Extends g h → structure_of g ≡ structure_of h
 one_structure g h e = same_structure g h.init h.runs e.init e.runs
@@ -24,15 +24,6 @@ sets_stay g h e name i = (same_sets g h (one_structure g h e) name i, same_sets 
 
 pub relations_stay : (g h : GraphValue) → Extends g h → (name : RelName) → basis_of name ≡ Runs → (i j : ℕ) → NamedRel g name i j ↔ NamedRel h name i j
 relations_stay g h e name b i j = (same_on_runs g h (one_structure g h e) name b i j, same_on_runs h g (sym (one_structure g h e)) name b i j)
-
--- what stands in the first part stands in the whole
-begun_at : (xs ys : List EventId) (i : ℕ) (x : EventId) → StandsAt xs i x → StandsAt (xs ++ ys) i x
-begun_at [] ys i x s = absurd s
-begun_at (z ∷ xs) ys zero x s = s
-begun_at (z ∷ xs) ys (suc i) x s = begun_at xs ys i x s
-
-begun : (xs ys : List EventId) (i : ℕ) (x : EventId) → Begins xs ys → StandsAt xs i x → StandsAt ys i x
-begun xs ys i x b s = let P : List EventId → Type 0 = λ zs. StandsAt zs i x in subst P (sym b.is) (begun_at xs b.more i x s)
 
 -- what stands from some place on stands so behind one more
 shifted : (y : EventId) (ys : List EventId) (e : EventId) (k : ℕ) → StandsFrom ys k e → StandsFrom (y ∷ ys) (suc k) e
@@ -91,19 +82,15 @@ coherence_before g h x d e c =
     let r : IsPartOfOne h.co c.1 = all_at (IsPartOfOne h.co) g.co c.0 c.1 x.co c.2 in
     (r.0, r.1, r.2, part_before c.1 r.1 d e r.3 c.3)
 
-pub reads_from : (g h : GraphValue) → Extends g h → (w r : EventId) → ReadsFrom g w r → ReadsFrom h w r
+pub reads_from : (g h : GraphValue) → Extends g h → (w r : EventId) → ReadsFrom g w r → ReadsFrom h w r ⊎ IsNobody g w
 reads_from g h x w r s =
     let P : List EventId → Type 0 = λ zs. StandsAt zs s.0 r in
-    (s.0, subst P (reads_same g h (one_structure g h x)) s.1, begun g.rf h.rf s.0 w x.rf s.2)
+    elim (x.rf s.0 w s.2) [ inl t ↦ inl (s.0, subst P (reads_same g h (one_structure g h x)) s.1, t) | inr n ↦ inr n ]
 
 pub relations_grow : (g h : GraphValue) → Extends g h → (name : RelName) (i j : ℕ) → NamedRel g name i j → NamedRel h name i j
-relations_grow g h x = all_within g h (one_structure g h x) (reads_from g h x) (coherence_before g h x)
+relations_grow g h x = all_kept g h (one_structure g h x) (reads_from g h x) (coherence_before g h x)
 
 -- GRAPHS
-
-all_first : (P : EventId → Type 0) (xs ys : List EventId) → All P (xs ++ ys) → All P xs
-all_first P [] ys h = All-nil P
-all_first P (x ∷ xs) ys h = All-cons P x xs (All-head P x (xs ++ ys) h) (all_first P xs ys (All-tail P x (xs ++ ys) h))
 
 all_part : (P : EventId → Type 0) (xs ys : List EventId) → IsPart xs ys → All P ys → All P xs
 all_part P [] ys p h = All-nil P
@@ -119,13 +106,14 @@ all_parts P (xs ∷ xss) yss p h =
     let q : IsPartOfOne yss xs = All-head (IsPartOfOne yss) xs xss p in
     All-cons (All P) xs xss (all_part P xs q.1 q.3 (all_at (All P) yss q.0 q.1 h q.2)) (all_parts P xss yss (All-tail (IsPartOfOne yss) xs xss p) h)
 
-pub part_is_graph : (g h : GraphValue) → Extends g h → IsGraph h → IsGraph g
-part_is_graph g h x k =
+pub part_is_graph : (g h : GraphValue) → Extends g h → All (IsNamed g.init g.runs) g.rf → IsGraph h → IsGraph g
+part_is_graph g h x f k =
     let F : List ℕ → Type 0 = λ init. (let z : GraphValue = record { init = init; runs = h.runs; rf = g.rf; co = g.co } in IsGraph z) in
     let G : List ThreadRun → Type 0 = λ runs. (let z : GraphValue = record { init = g.init; runs = runs; rf = g.rf; co = g.co } in IsGraph z) in
-    let W : List EventId → Type 0 = λ ws. All (IsNamed h.init h.runs) ws in
+    let N : List ℕ → Type 0 = λ init. All (IsNamed init h.runs) g.rf in
+    let M : List ThreadRun → Type 0 = λ runs. All (IsNamed g.init runs) g.rf in
     subst G x.runs (subst F x.init (record {
       few = k.few;
-      rf = all_first (IsNamed h.init h.runs) g.rf x.rf.more (subst W x.rf.is k.rf);
+      rf = subst N (sym x.init) (subst M (sym x.runs) f);
       co = all_parts (IsNamed h.init h.runs) g.co h.co x.co k.co;
     }))

@@ -1,5 +1,6 @@
 -- Named relations that are made of others.
-use Rattle.std.proofs.Common.{◌≡◌, ℕ, ◌<◌, refl, ◌∙◌, subst, arith}
+use Rattle.std.proofs.Common.{◌≡◌, ◌⊎◌, ℕ, zero, suc, ◌<◌, List, [], ◌∷◌, take, refl, ◌∙◌, subst, inl, inr, arith}
+use Rattle.listings.specs.Lists.{IsIn, StandsAt}
 use Rattle.relations.specs.Relation.{Relation, In, IsExactly}
 use Rattle.relations.specs.Algebra.{Through}
 use Rattle.relations.specs.Equality.{pair_below}
@@ -9,11 +10,12 @@ use Rattle.events.specs.declared.named.RelName.TheVariants.{Rf, Co, Fr, Int, Ext
 use Rattle.std.specs.List.{All}
 use Rattle.std.proofs.lemmas.List.Elements.{All-take}
 use Rattle.events.specs.declared.view.held.Shown.{Shown}
-use Rattle.events.specs.declared.view.held.Shown.TheVariants.{Whole, CutDown, Opened}
-use Rattle.events.specs.Held.{seen}
+use Rattle.events.specs.declared.view.held.Shown.TheVariants.{Whole, CutDown, Opened, Told}
+use Rattle.events.specs.Held.{IsShowable, seen}
 use Rattle.events.specs.Executions.{GraphValue, IsGraph, IsNamed}
 use Rattle.events.specs.Named.{event_names, event_count, IsNumber, InRel, NamedRel, ReadsFrom, ReadsBefore, IsCoherenceBefore}
 use Rattle.events.proofs.Adding.{one_number, of_number, has_number, number_below, all_at}
+use Rattle.events.proofs.Cutting.{stands_in}
 use Rattle.events.proofs.Standing.{one_stands}
 
 -- in two relations by numbers, so by events
@@ -99,17 +101,36 @@ turned_named g r t h m = record {
   canonical = m.canonical;
 }
 
--- what is shown of the sources of an execution names events
-pub seen_named : (shown : Shown) (g : GraphValue) → IsGraph g → All (IsNamed (seen shown g).init (seen shown g).runs) (seen shown g).rf
-seen_named Whole g h = h.rf
-seen_named (CutDown c) g h = All-take (IsNamed g.init g.runs) c.reads g.rf h.rf
-seen_named (Opened c) g h = h.rf
+-- w is an event, or stands in no order
+abbrev IsFound : GraphValue → EventId → Type 0
+IsFound g w = IsNamed g.init g.runs w ⊎ ((x : ℕ) (order : List EventId) → StandsAt g.co x order → ¬ IsIn w order)
+
+abbrev pub AreFound : GraphValue → Type 0
+AreFound g = (k : ℕ) (w : EventId) → StandsAt g.rf k w → IsFound g w
+
+of_order : (order : List EventId) (w : EventId) → (¬ IsIn w order) → (x : ℕ) (o : List EventId) → StandsAt (order ∷ []) x o → ¬ IsIn w o
+of_order order w n zero o s i = n (let P : List EventId → Type 0 = λ z. IsIn w z in subst P s i)
+of_order order w n (suc x) o s i = absurd s
+
+-- what is shown of the sources of an execution are events, or stands in no order
+pub seen_found : (shown : Shown) (g : GraphValue) → IsGraph g → IsShowable shown g → AreFound (seen shown g)
+seen_found Whole g h x k w s = inl (all_at (IsNamed g.init g.runs) g.rf k w h.rf s)
+seen_found (CutDown c) g h x k w s = inl (all_at (IsNamed g.init g.runs) (take c.reads g.rf) k w (All-take (IsNamed g.init g.runs) c.reads g.rf h.rf) s)
+seen_found (Opened c) g h x k w s = inl (all_at (IsNamed g.init g.runs) g.rf k w h.rf s)
+seen_found (Told e) g h x k w s = elim (x k w s) [ inl n ↦ inl n | inr n ↦ inr (of_order e.order.now w n) ]
+
+-- what stands before another in coherence has a number, if it is an event or stands in no order
+found_number : (g : GraphValue) (w e : EventId) → IsFound g w → IsCoherenceBefore g w e → (i : ℕ) × IsNumber g i w
+found_number g w e f b = elim f [
+  | inl n ↦ has_number g w n
+  | inr n ↦ absurd (n b.0 b.1 b.2 (stands_in b.1 b.3.0 w b.3.1))
+]
 
 -- the row of co behind the write that a read reads from
-pub fr_named : (g : GraphValue) (s t u : Relation) → All (IsNamed g.init g.runs) g.rf → IsExactly (event_count g) (λ i j. NamedRel g Rf j i) t → IsExactly (event_count g) (NamedRel g Co) s →
+pub fr_named : (g : GraphValue) (s t u : Relation) → AreFound g → IsExactly (event_count g) (λ i j. NamedRel g Rf j i) t → IsExactly (event_count g) (NamedRel g Co) s →
     IsExactly t.count (Through t.count (In t) (In s)) u → IsExactly (event_count g) (NamedRel g Fr) u
 unfolding NamedRel
-fr_named g s t u named l k m = record {
+fr_named g s t u found l k m = record {
   count = m.count ∙ l.count;
   only = λ i j x. (let y : Through t.count (In t) (In s) i j = m.only i j x in
       let p : NamedRel g Rf y.0 i = l.only i y.0 y.2 in
@@ -118,7 +139,7 @@ fr_named g s t u named l k m = record {
       (p.1, q.1, p.3, q.3, (p.0, p.4, subst P (one_stands (event_names g) y.0 q.0 p.0 q.2 p.2) q.4)));
   all = λ i j a b z. (let before : ReadsBefore g z.0 z.1 = z.4 in
       let from : ReadsFrom g before.0 z.0 = before.1 in
-      let w : (i : ℕ) × IsNumber g i before.0 = has_number g before.0 (all_at (IsNamed g.init g.runs) g.rf from.0 before.0 named from.2) in
+      let w : (i : ℕ) × IsNumber g i before.0 = found_number g before.0 z.1 (found from.0 before.0 from.2) before.2 in
       let n : w.0 < event_count g = number_below g w.0 before.0 w.1 in
       m.all i j (omega (arith, a, l.count)) (omega (arith, b, l.count)) (
         w.0,

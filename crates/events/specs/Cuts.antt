@@ -1,11 +1,12 @@
 -- Executions cut down to what is known of them: what their first reads read from, and the orders of some of their writes.
-use Rattle.std.specs.Prelude.{ℕ, suc, List, [], ◌∷◌, ◌++◌, map, filter, take, drop, Bool, false, not, nat_lt, ◌==◌, ◌&&◌, if◌then◌else◌}
+use Rattle.std.specs.Prelude.{ℕ, suc, ◌⊎◌, List, [], ◌∷◌, ◌++◌, map, filter, take, drop, Bool, false, not, nat_lt, ◌==◌, ◌&&◌, if◌then◌else◌}
 use Rattle.std.specs.List.{list_any}
-use Rattle.listings.specs.Lists.{IsIn}
+use Rattle.listings.specs.Lists.{IsIn, StandsAt}
 use Rattle.events.specs.declared.event.EventId.{EventId}
 use Rattle.events.specs.declared.event.EventId.TheVariants.{Initial, Own}
 use Rattle.events.specs.declared.cut.Cut.{Cut}
-use Rattle.events.specs.Executions.{GraphValue}
+use Rattle.events.specs.declared.cut.Excerpt.{Excerpt}
+use Rattle.events.specs.Executions.{GraphValue, IsNamed}
 use Rattle.events.specs.Named.{StandsBefore}
 
 abbrev pub same_event : EventId → EventId → Bool
@@ -44,6 +45,14 @@ known_part g reads free unplaced = record { init = g.init; runs = g.runs; rf = t
 
 abbrev pub cut_down : GraphValue → Cut → GraphValue
 cut_down g c = known_part g c.reads c.locations c.unplaced.now
+
+-- an execution of which an excerpt alone is known
+abbrev pub excerpt_of : GraphValue → Excerpt → GraphValue
+excerpt_of g e = record { init = g.init; runs = g.runs; rf = e.sources.now; co = e.order.now ∷ [] }
+
+-- Each source of the excerpt is an event, or stands nowhere in its order.
+abbrev pub IsSound : GraphValue → Excerpt → Type 0
+IsSound g x = (k : ℕ) (w : EventId) → StandsAt x.sources.now k w → IsNamed g.init g.runs w ⊎ (¬ IsIn w x.order.now)
 
 -- one of these orders has d before e
 abbrev pub IsBeforeInOne : List (List EventId) → EventId → EventId → Type 0

@@ -13,3 +13,11 @@ pub struct Cut<'a> {
     /// are known.
     pub unplaced: &'a [EventId],
 }
+
+/// Some of what an execution has: sources of its reads, in their order, and an order of some writes. Where the source of a read isn't known, an
+/// event stands in its place that the execution hasn't got.
+#[derive(Clone, Copy, Drop)]
+pub struct Excerpt<'a> {
+    pub sources: &'a [EventId],
+    pub order: &'a [EventId],
+}

@@ -4,12 +4,12 @@ ghost use Rattle.std.specs.Prelude.{◌≡◌, ◌≤◌, IfOk};
 ghost use Rattle.relations.specs.Events.{IsExactlySet};
 ghost use Rattle.relations.specs.Relation.{IsExactly};
 ghost use Rattle.events.specs.Named.{event_count, NamedSet, NamedRel};
-ghost use Rattle.events.specs.Cuts.{cut_down};
+ghost use Rattle.events.specs.Cuts.{cut_down, excerpt_of, IsSound};
 ghost use Rattle.events.specs.Opened.{opened};
 ghost use Rattle.events.specs.Structures.{structure_of, sourced_of};
 ghost use Rattle.events.specs.declared.named.RelName.TheVariants as names;
 
-use crate::cut::Cut;
+use crate::cut::{Cut, Excerpt};
 use crate::graph::Graph;
 use crate::named::{RelName, SetName};
 use relations::{Rel, Set};
@@ -52,7 +52,7 @@ impl<'a> Model for GraphView<'a> {
     ghost use Rattle.std.specs.Prelude.{◌≡◌};
     ghost use Rattle.relations.specs.Relation.{IsExactly};
     ghost use Rattle.events.specs.Executions.{GraphValue};
-    ghost use Rattle.events.specs.Held.{seen, held_value, placed_value};
+    ghost use Rattle.events.specs.Held.{IsShowable, seen, held_value, placed_value};
     ghost use Rattle.events.specs.Named.{event_count, NamedRel};
     ghost use Rattle.events.specs.Structures.{sourced_of};
     ghost use Rattle.events.specs.declared.named.RelName.TheVariants as names;
@@ -62,7 +62,7 @@ impl<'a> Model for GraphView<'a> {
     ghost view = { λ v. seen v.shown v.graph.now };
 
     ghost invariant = { λ v. let g = seen v.shown v.graph.now in
-        record { held : held_value v.held ≡ sourced_of g; co : IsExactly (event_count g) (NamedRel g names.Co) (placed_value v.co) } };
+        record { shown : IsShowable v.shown v.graph.now; held : held_value v.held ≡ sourced_of g; co : IsExactly (event_count g) (NamedRel g names.Co) (placed_value v.co) } };
 }
 
 impl<'a> GraphView<'a> {
@@ -135,6 +135,26 @@ impl<'a> GraphView<'a> {
         }
     }
 
+    /// The same of an execution of which an excerpt alone is known.
+    pub fn over_excerpt(
+        sourced: &'a SourcedStructure,
+        graph: &'a Graph,
+        excerpt: Excerpt<'a>,
+        room: &'a mut Rel,
+    ) -> Self
+        requires sound { IsSound graph.now excerpt }
+        requires sourced { sourced.now ≡ sourced_of (excerpt_of graph.now excerpt) }
+        ensures { result ≡ excerpt_of graph.entry.now excerpt.entry }
+    {
+        sourced.numbered(graph).order_into(&excerpt, room);
+        GraphView {
+            graph,
+            shown: Shown::Told(excerpt),
+            held: Held::Lent(sourced),
+            co: Placed::Lent(room),
+        }
+    }
+
     /// How many events there are.
     pub fn count(&self) -> usize
         ensures is { result ≡ event_count self.now }
@@ -196,7 +216,7 @@ impl<'a> GraphView<'a> {
     fn fr_into(&self, into: &mut Rel)
         ensures { IsExactly (event_count self.now) (NamedRel self.now names.Fr) into.new }
     {
-        // They tell that what is read from is an event.
+        // They tell that what an execution reads from is an event.
         let _ = self.graph.runs();
         into.become_seq(self.turned(), self.co());
     }

@@ -4,7 +4,7 @@ ghost use Rattle.std.specs.Prelude.{◌≡◌};
 ghost use Rattle.events.specs.Held.{held_value, placed_value};
 
 use super::sourced::SourcedStructure;
-use crate::cut::Cut;
+use crate::cut::{Cut, Excerpt};
 use relations::Rel;
 
 /// How an execution is shown.
@@ -16,6 +16,8 @@ pub(super) enum Shown<'a> {
     CutDown(Cut<'a>),
     /// With the writes open that the cut leaves without a place.
     Opened(Cut<'a>),
+    /// By an excerpt alone.
+    Told(Excerpt<'a>),
 }
 
 /// What an execution has in common with those that differ in their coherence orders alone. What is owned lies in a box, so that

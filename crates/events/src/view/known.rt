@@ -4,12 +4,12 @@ ghost use Rattle.std.specs.Prelude.{◌≡◌, ◌⊎◌, drop};
 ghost use Rattle.relations.specs.Events.{Has, IsCanonicalSet, IsExactlySet};
 ghost use Rattle.relations.specs.Relation.{In, IsCanonical, IsExactly};
 ghost use Rattle.events.specs.declared.named.RelName.TheVariants.{Co};
-ghost use Rattle.events.specs.Cuts.{cut_down, known_of, first_before, placed, IsBeforeInOne};
+ghost use Rattle.events.specs.Cuts.{cut_down, excerpt_of, known_of, first_before, placed, IsBeforeInOne};
 ghost use Rattle.events.specs.Named.{IsNumber, event_count, NamedRel, StandsBefore};
 ghost use Rattle.events.specs.Rows.{ByNumbers, IsNumberOfOne, IsNumberUnless};
 
 use super::numbered::Numbered;
-use crate::cut::Cut;
+use crate::cut::{Cut, Excerpt};
 use crate::event::EventId;
 use relations::{Rel, Set};
 
@@ -29,6 +29,14 @@ impl Numbered<'_> {
         for (location, order) in self.graph.co().iter().enumerate() {
             self.relate_known(rel, cut, location, order.writes());
         }
+    }
+
+    /// Writes `co` of an excerpt over what `rel` had.
+    pub(super) fn order_into(&self, excerpt: &Excerpt<'_>, rel: &mut Rel)
+        ensures { IsExactly (event_count self.now) (NamedRel (excerpt_of self.now excerpt.now) Co) rel.new }
+    {
+        rel.become_empty(self.count());
+        self.relate_order(rel, excerpt.order);
     }
 
     // Adds the pairs that are known of the order of a location.

@@ -1,13 +1,13 @@
 //! Executions without their coherence orders.
 
 ghost use Rattle.std.specs.Prelude.{◌≡◌, ◌≢◌, ◌↔◌, take, IfOk, IsTrue, OnOk, OnErr};
-ghost use Rattle.events.specs.Cuts.{cut_down};
+ghost use Rattle.events.specs.Cuts.{cut_down, excerpt_of};
 ghost use Rattle.events.specs.Structures.{structure_of, sourced_of, with_sources};
 ghost use Rattle.events.specs.declared.named.Basis.TheVariants.{Runs, Sources, Orders};
 
 use super::numbered::Numbered;
 use super::structure::EventStructure;
-use crate::cut::Cut;
+use crate::cut::{Cut, Excerpt};
 use crate::event::EventId;
 use crate::graph::Graph;
 use crate::named::Basis;
@@ -128,6 +128,21 @@ impl SourcedStructure {
         self.follow_with(alloc, graph, first_sources(graph, cut.reads))
     }
 
+    /// The same for an execution of which an excerpt alone is known.
+    pub fn follow_excerpt(
+        &mut self,
+        alloc: Global,
+        graph: &Graph,
+        excerpt: &Excerpt<'_>,
+    ) -> Result<Basis, AllocError>
+        ensures done { OnOk result (self.new ≡ sourced_of (excerpt_of graph.now excerpt.now)) }
+        ensures runs { IfOk result (λ b. b ≡ Sources → self.new.structure ≡ self.old.structure) }
+        ensures all { IfOk result (λ b. b ≡ Orders → self.new ≡ self.old) }
+        ensures same { OnErr result (self.new ≡ self.old) }
+    {
+        self.follow_with(alloc, graph, excerpt.sources)
+    }
+
     /// The same as `follow` for an execution that is known to have the same runs but for their values. They aren't compared, and
     /// it tells `Sources` or `Orders`.
     pub fn follow_on(&mut self, alloc: Global, graph: &Graph) -> Result<Basis, AllocError>
@@ -156,6 +171,23 @@ impl SourcedStructure {
         ensures same { OnErr result (self.new ≡ self.old) }
     {
         self.follow_on_with(alloc, graph, first_sources(graph, cut.reads))
+    }
+
+    /// The same for such an execution of which an excerpt alone is known.
+    pub fn follow_excerpt_on(
+        &mut self,
+        alloc: Global,
+        graph: &Graph,
+        excerpt: &Excerpt<'_>,
+    ) -> Result<Basis, AllocError>
+        requires { self.old.structure ≡ structure_of graph.now }
+        ensures done { OnOk result (self.new ≡ sourced_of (excerpt_of graph.now excerpt.now)) }
+        ensures structure { self.new.structure ≡ self.old.structure }
+        ensures told { IfOk result (λ b. b ≢ Runs) }
+        ensures all { IfOk result (λ b. b ≡ Orders → self.new ≡ self.old) }
+        ensures same { OnErr result (self.new ≡ self.old) }
+    {
+        self.follow_on_with(alloc, graph, excerpt.sources)
     }
 
     // The same as `follow` for an execution, if these are the sources of its reads.
