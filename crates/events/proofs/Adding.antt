@@ -217,7 +217,7 @@ only_order order (suc x) o d e s b = absurd s
 
 -- the order of an excerpt
 pub one_order : (n : ℕ) (g : GraphValue) (x : Excerpt) (r t : Relation) → IsExactly n (λ i j. ⊥) r → IsExactly n (λ i j. In r i j ⊎ ByNumbers g (StandsBefore x.order.now) i j) t → IsExactly n (NamedRel (excerpt_of g x) Co) t
-unfolding NamedRel
+unfolding NamedRel event_names
 one_order n g x r t h k =
     reworded n (λ i j. In r i j ⊎ ByNumbers g (StandsBefore x.order.now) i j) (NamedRel (excerpt_of g x) Co) t
     (λ i j y. elim y [

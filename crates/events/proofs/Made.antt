@@ -1,5 +1,5 @@
 -- Named relations that are made of others.
-use Rattle.std.proofs.Common.{◌≡◌, ◌⊎◌, ℕ, zero, suc, ◌<◌, List, [], ◌∷◌, take, refl, ◌∙◌, subst, inl, inr, arith}
+use Rattle.std.proofs.Common.{◌≡◌, ℕ, zero, suc, ◌<◌, List, [], ◌∷◌, take, refl, sym, ◌∙◌, subst, inl, inr, arith}
 use Rattle.listings.specs.Lists.{IsIn, StandsAt}
 use Rattle.relations.specs.Relation.{Relation, In, IsExactly}
 use Rattle.relations.specs.Algebra.{Through}
@@ -8,9 +8,12 @@ use Rattle.events.specs.declared.event.EventId.{EventId}
 use Rattle.events.specs.declared.named.RelName.{RelName}
 use Rattle.events.specs.declared.named.RelName.TheVariants.{Rf, Co, Fr, Int, Ext, Addr, Id}
 use Rattle.std.specs.List.{All}
-use Rattle.std.proofs.lemmas.List.Elements.{All-take}
+use Rattle.std.proofs.lemmas.List.Elements.{All-head, All-tail, All-take}
 use Rattle.events.specs.declared.view.held.Shown.{Shown}
-use Rattle.events.specs.declared.view.held.Shown.TheVariants.{Whole, CutDown, Opened, Told}
+use Rattle.events.specs.declared.view.held.Shown.TheVariants.{Whole, Partly, Opened}
+use Rattle.events.specs.declared.cut.Part.{Part}
+use Rattle.events.specs.declared.cut.Part.TheVariants as parts
+use Rattle.events.specs.Cuts.{part_of, IsOfEvents}
 use Rattle.events.specs.Held.{IsShowable, seen}
 use Rattle.events.specs.Executions.{GraphValue, IsGraph, IsNamed}
 use Rattle.events.specs.Named.{event_names, event_count, IsNumber, InRel, NamedRel, ReadsFrom, ReadsBefore, IsCoherenceBefore}
@@ -101,30 +104,34 @@ turned_named g r t h m = record {
   canonical = m.canonical;
 }
 
--- w is an event, or stands in no order
+-- w is an event if it stands in an order
 abbrev IsFound : GraphValue → EventId → Type 0
-IsFound g w = IsNamed g.init g.runs w ⊎ ((x : ℕ) (order : List EventId) → StandsAt g.co x order → ¬ IsIn w order)
+IsFound g w = (x : ℕ) (order : List EventId) → StandsAt g.co x order → IsIn w order → IsNamed g.init g.runs w
 
 abbrev pub AreFound : GraphValue → Type 0
 AreFound g = (k : ℕ) (w : EventId) → StandsAt g.rf k w → IsFound g w
 
-of_order : (order : List EventId) (w : EventId) → (¬ IsIn w order) → (x : ℕ) (o : List EventId) → StandsAt (order ∷ []) x o → ¬ IsIn w o
-of_order order w n zero o s i = n (let P : List EventId → Type 0 = λ z. IsIn w z in subst P s i)
-of_order order w n (suc x) o s i = absurd s
+all_in : (P : EventId → Type 0) (ws : List EventId) (w : EventId) → All P ws → IsIn w ws → P w
+all_in P [] w h i = absurd i
+all_in P (v ∷ ws) w h i = elim i [ inl e ↦ subst P (sym e) (All-head P v ws h) | inr j ↦ all_in P ws w (All-tail P v ws h) j ]
 
--- what is shown of the sources of an execution are events, or stands in no order
+of_order : (P : EventId → Type 0) (order : List EventId) (w : EventId) → All P order → (x : ℕ) (o : List EventId) → StandsAt (order ∷ []) x o → IsIn w o → P w
+of_order P order w h zero o s i = all_in P order w h (let Q : List EventId → Type 0 = λ z. IsIn w z in subst Q s i)
+of_order P order w h (suc x) o s i = absurd s
+
+of_part : (p : Part) (g : GraphValue) → IsGraph g → IsOfEvents g p → AreFound (part_of g p)
+of_part (parts.Cut c) g h x k w s = λ y o at i. all_at (IsNamed g.init g.runs) (take c.reads g.rf) k w (All-take (IsNamed g.init g.runs) c.reads g.rf h.rf) s
+of_part (parts.Excerpt e) g h x k w s = of_order (IsNamed g.init g.runs) e.order.now w x
+
+-- what is shown of the sources of an execution are events, as far as they stand in its orders
 pub seen_found : (shown : Shown) (g : GraphValue) → IsGraph g → IsShowable shown g → AreFound (seen shown g)
-seen_found Whole g h x k w s = inl (all_at (IsNamed g.init g.runs) g.rf k w h.rf s)
-seen_found (CutDown c) g h x k w s = inl (all_at (IsNamed g.init g.runs) (take c.reads g.rf) k w (All-take (IsNamed g.init g.runs) c.reads g.rf h.rf) s)
-seen_found (Opened c) g h x k w s = inl (all_at (IsNamed g.init g.runs) g.rf k w h.rf s)
-seen_found (Told e) g h x k w s = elim (x k w s) [ inl n ↦ inl n | inr n ↦ inr (of_order e.order.now w n) ]
+seen_found Whole g h x k w s = λ y o at i. all_at (IsNamed g.init g.runs) g.rf k w h.rf s
+seen_found (Partly p) g h x k w s = of_part p g h x k w s
+seen_found (Opened c) g h x k w s = λ y o at i. all_at (IsNamed g.init g.runs) g.rf k w h.rf s
 
--- what stands before another in coherence has a number, if it is an event or stands in no order
+-- what stands before another in coherence has a number
 found_number : (g : GraphValue) (w e : EventId) → IsFound g w → IsCoherenceBefore g w e → (i : ℕ) × IsNumber g i w
-found_number g w e f b = elim f [
-  | inl n ↦ has_number g w n
-  | inr n ↦ absurd (n b.0 b.1 b.2 (stands_in b.1 b.3.0 w b.3.1))
-]
+found_number g w e f b = has_number g w (f b.0 b.1 b.2 (stands_in b.1 b.3.0 w b.3.1))
 
 -- the row of co behind the write that a read reads from
 pub fr_named : (g : GraphValue) (s t u : Relation) → AreFound g → IsExactly (event_count g) (λ i j. NamedRel g Rf j i) t → IsExactly (event_count g) (NamedRel g Co) s →

@@ -1,11 +1,13 @@
 -- Executions cut down to what is known of them: what their first reads read from, and the orders of some of their writes.
-use Rattle.std.specs.Prelude.{ℕ, suc, ◌⊎◌, List, [], ◌∷◌, ◌++◌, map, filter, take, drop, Bool, false, not, nat_lt, ◌==◌, ◌&&◌, if◌then◌else◌}
+use Rattle.std.specs.Prelude.{ℕ, suc, ◌⊎◌, All, List, [], ◌∷◌, ◌++◌, map, filter, take, drop, Bool, false, not, nat_lt, ◌==◌, ◌&&◌, if◌then◌else◌}
 use Rattle.std.specs.List.{list_any}
 use Rattle.listings.specs.Lists.{IsIn, StandsAt}
 use Rattle.events.specs.declared.event.EventId.{EventId}
 use Rattle.events.specs.declared.event.EventId.TheVariants.{Initial, Own}
 use Rattle.events.specs.declared.cut.Cut.{Cut}
 use Rattle.events.specs.declared.cut.Excerpt.{Excerpt}
+use Rattle.events.specs.declared.cut.Part.{Part}
+use Rattle.events.specs.declared.cut.Part.TheVariants as parts
 use Rattle.events.specs.Executions.{GraphValue, IsNamed}
 use Rattle.events.specs.Named.{StandsBefore}
 
@@ -48,11 +50,17 @@ cut_down g c = known_part g c.reads c.locations c.unplaced.now
 
 -- an execution of which an excerpt alone is known
 abbrev pub excerpt_of : GraphValue → Excerpt → GraphValue
-excerpt_of g e = record { init = g.init; runs = g.runs; rf = e.sources.now; co = e.order.now ∷ [] }
+excerpt_of g x = record { init = g.init; runs = g.runs; rf = x.sources.now; co = x.order.now ∷ [] }
 
--- Each source of the excerpt is an event, or stands nowhere in its order.
-abbrev pub IsSound : GraphValue → Excerpt → Type 0
-IsSound g x = (k : ℕ) (w : EventId) → StandsAt x.sources.now k w → IsNamed g.init g.runs w ⊎ (¬ IsIn w x.order.now)
+-- an execution of which a part alone is known
+abbrev pub part_of : GraphValue → Part → GraphValue
+part_of g (parts.Cut c) = cut_down g c
+part_of g (parts.Excerpt x) = excerpt_of g x
+
+-- The order of an excerpt is one of events of the execution.
+abbrev pub IsOfEvents : GraphValue → Part → Type 0
+IsOfEvents g (parts.Cut c) = Unit {0}
+IsOfEvents g (parts.Excerpt x) = All (IsNamed g.init g.runs) x.order.now
 
 -- one of these orders has d before e
 abbrev pub IsBeforeInOne : List (List EventId) → EventId → EventId → Type 0

@@ -21,3 +21,10 @@ pub struct Excerpt<'a> {
     pub sources: &'a [EventId],
     pub order: &'a [EventId],
 }
+
+/// What is known of an execution beside its runs, where not all is.
+#[derive(Clone, Copy, Drop)]
+pub enum Part<'a> {
+    Cut(Cut<'a>),
+    Excerpt(Excerpt<'a>),
+}

@@ -9,7 +9,7 @@ mod named;
 mod run;
 mod view;
 
-pub use cut::{Cut, Excerpt};
+pub use cut::{Cut, Excerpt, Part};
 pub use event::{Access, Event, EventId, Order, no_places};
 pub use graph::{Coherence, Graph, GraphParts};
 pub use named::{Basis, RelName, SetName};

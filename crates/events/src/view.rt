@@ -4,12 +4,12 @@ ghost use Rattle.std.specs.Prelude.{◌≡◌, ◌≤◌, IfOk};
 ghost use Rattle.relations.specs.Events.{IsExactlySet};
 ghost use Rattle.relations.specs.Relation.{IsExactly};
 ghost use Rattle.events.specs.Named.{event_count, NamedSet, NamedRel};
-ghost use Rattle.events.specs.Cuts.{cut_down, excerpt_of, IsSound};
+ghost use Rattle.events.specs.Cuts.{part_of, IsOfEvents};
 ghost use Rattle.events.specs.Opened.{opened};
 ghost use Rattle.events.specs.Structures.{structure_of, sourced_of};
 ghost use Rattle.events.specs.declared.named.RelName.TheVariants as names;
 
-use crate::cut::{Cut, Excerpt};
+use crate::cut::{Cut, Part};
 use crate::graph::Graph;
 use crate::named::{RelName, SetName};
 use relations::{Rel, Set};
@@ -96,20 +96,21 @@ impl<'a> GraphView<'a> {
         }
     }
 
-    /// The same of an execution that is cut down to what is known of it.
-    pub fn over_cut(
+    /// The same of an execution of which this is known.
+    pub fn over_part(
         sourced: &'a SourcedStructure,
         graph: &'a Graph,
-        cut: Cut<'a>,
+        part: Part<'a>,
         room: &'a mut Rel,
     ) -> Self
-        requires { sourced.now ≡ sourced_of (cut_down graph.now cut) }
-        ensures { result ≡ cut_down graph.entry.now cut.entry }
+        requires part { IsOfEvents graph.now part }
+        requires sourced { sourced.now ≡ sourced_of (part_of graph.now part) }
+        ensures { result ≡ part_of graph.entry.now part.entry }
     {
-        sourced.numbered(graph).known_coherence_into(&cut, room);
+        sourced.numbered(graph).part_into(&part, room);
         GraphView {
             graph,
-            shown: Shown::CutDown(cut),
+            shown: Shown::Partly(part),
             held: Held::Lent(sourced),
             co: Placed::Lent(room),
         }
@@ -130,26 +131,6 @@ impl<'a> GraphView<'a> {
         GraphView {
             graph,
             shown: Shown::Opened(cut),
-            held: Held::Lent(sourced),
-            co: Placed::Lent(room),
-        }
-    }
-
-    /// The same of an execution of which an excerpt alone is known.
-    pub fn over_excerpt(
-        sourced: &'a SourcedStructure,
-        graph: &'a Graph,
-        excerpt: Excerpt<'a>,
-        room: &'a mut Rel,
-    ) -> Self
-        requires sound { IsSound graph.now excerpt }
-        requires sourced { sourced.now ≡ sourced_of (excerpt_of graph.now excerpt) }
-        ensures { result ≡ excerpt_of graph.entry.now excerpt.entry }
-    {
-        sourced.numbered(graph).order_into(&excerpt, room);
-        GraphView {
-            graph,
-            shown: Shown::Told(excerpt),
             held: Held::Lent(sourced),
             co: Placed::Lent(room),
         }

@@ -4,7 +4,7 @@ ghost use Rattle.std.specs.Prelude.{◌≡◌};
 ghost use Rattle.events.specs.Held.{held_value, placed_value};
 
 use super::sourced::SourcedStructure;
-use crate::cut::{Cut, Excerpt};
+use crate::cut::{Cut, Part};
 use relations::Rel;
 
 /// How an execution is shown.
@@ -12,12 +12,10 @@ use relations::Rel;
 pub(super) enum Shown<'a> {
     /// As it is.
     Whole,
-    /// Cut down to what is known of it.
-    CutDown(Cut<'a>),
+    /// As far as it is known.
+    Partly(Part<'a>),
     /// With the writes open that the cut leaves without a place.
     Opened(Cut<'a>),
-    /// By an excerpt alone.
-    Told(Excerpt<'a>),
 }
 
 /// What an execution has in common with those that differ in their coherence orders alone. What is owned lies in a box, so that

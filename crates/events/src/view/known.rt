@@ -1,15 +1,15 @@
-//! What is known of coherence orders where an execution is cut down, row by row.
+//! What is known of coherence orders where not all is known of an execution, row by row.
 
 ghost use Rattle.std.specs.Prelude.{◌≡◌, ◌⊎◌, drop};
 ghost use Rattle.relations.specs.Events.{Has, IsCanonicalSet, IsExactlySet};
 ghost use Rattle.relations.specs.Relation.{In, IsCanonical, IsExactly};
 ghost use Rattle.events.specs.declared.named.RelName.TheVariants.{Co};
-ghost use Rattle.events.specs.Cuts.{cut_down, excerpt_of, known_of, first_before, placed, IsBeforeInOne};
+ghost use Rattle.events.specs.Cuts.{cut_down, excerpt_of, part_of, known_of, first_before, placed, IsBeforeInOne};
 ghost use Rattle.events.specs.Named.{IsNumber, event_count, NamedRel, StandsBefore};
 ghost use Rattle.events.specs.Rows.{ByNumbers, IsNumberOfOne, IsNumberUnless};
 
 use super::numbered::Numbered;
-use crate::cut::{Cut, Excerpt};
+use crate::cut::{Cut, Excerpt, Part};
 use crate::event::EventId;
 use relations::{Rel, Set};
 
@@ -21,7 +21,17 @@ pub(super) fn later_writes(order: &[EventId]) -> &[EventId]
 }
 
 impl Numbered<'_> {
-    /// Writes what is known of `co`, where the execution is cut down to what is known of it, over what `rel` had.
+    /// Writes what is known of `co`, if this is known of the execution, over what `rel` had.
+    pub(super) fn part_into(&self, part: &Part<'_>, rel: &mut Rel)
+        ensures { IsExactly (event_count self.now) (NamedRel (part_of self.now part.now) Co) rel.new }
+    {
+        match part {
+            Part::Cut(cut) => self.known_coherence_into(cut, rel),
+            Part::Excerpt(excerpt) => self.order_into(excerpt, rel),
+        }
+    }
+
+    /// The same, where the execution is cut down to what is known of it.
     pub(super) fn known_coherence_into(&self, cut: &Cut<'_>, rel: &mut Rel)
         ensures { IsExactly (event_count self.now) (NamedRel (cut_down self.now cut.now) Co) rel.new }
     {
@@ -31,8 +41,8 @@ impl Numbered<'_> {
         }
     }
 
-    /// Writes `co` of an excerpt over what `rel` had.
-    pub(super) fn order_into(&self, excerpt: &Excerpt<'_>, rel: &mut Rel)
+    // The same, where an excerpt of the execution is known.
+    fn order_into(&self, excerpt: &Excerpt<'_>, rel: &mut Rel)
         ensures { IsExactly (event_count self.now) (NamedRel (excerpt_of self.now excerpt.now) Co) rel.new }
     {
         rel.become_empty(self.count());

@@ -1,13 +1,13 @@
 //! Executions without their coherence orders.
 
 ghost use Rattle.std.specs.Prelude.{◌≡◌, ◌≢◌, ◌↔◌, take, IfOk, IsTrue, OnOk, OnErr};
-ghost use Rattle.events.specs.Cuts.{cut_down, excerpt_of};
+ghost use Rattle.events.specs.Cuts.{part_of};
 ghost use Rattle.events.specs.Structures.{structure_of, sourced_of, with_sources};
 ghost use Rattle.events.specs.declared.named.Basis.TheVariants.{Runs, Sources, Orders};
 
 use super::numbered::Numbered;
 use super::structure::EventStructure;
-use crate::cut::{Cut, Excerpt};
+use crate::cut::Part;
 use crate::event::EventId;
 use crate::graph::Graph;
 use crate::named::Basis;
@@ -57,6 +57,16 @@ fn first_sources(graph: &Graph, reads: usize) -> &[EventId]
 {
     let sources = graph.rf();
     &sources[..sources.len().min(reads)]
+}
+
+/// What its reads read from, as far as it is known.
+fn sources_of<'a>(graph: &'a Graph, part: &Part<'a>) -> &'a [EventId]
+    ensures { result.now ≡ (part_of graph.entry.now part.entry.now).rf }
+{
+    match part {
+        Part::Cut(cut) => first_sources(graph, cut.reads),
+        Part::Excerpt(excerpt) => excerpt.sources,
+    }
 }
 
 // Writes sources over those that stand in a list, in its room where they fit.
@@ -113,34 +123,19 @@ impl SourcedStructure {
         self.follow_with(alloc, graph, graph.rf())
     }
 
-    /// The same for an execution that is cut down to what is known of it.
-    pub fn follow_cut(
+    /// The same for an execution of which this is known.
+    pub fn follow_part(
         &mut self,
         alloc: Global,
         graph: &Graph,
-        cut: &Cut<'_>,
+        part: &Part<'_>,
     ) -> Result<Basis, AllocError>
-        ensures done { OnOk result (self.new ≡ sourced_of (cut_down graph.now cut.now)) }
+        ensures done { OnOk result (self.new ≡ sourced_of (part_of graph.now part.now)) }
         ensures runs { IfOk result (λ b. b ≡ Sources → self.new.structure ≡ self.old.structure) }
         ensures all { IfOk result (λ b. b ≡ Orders → self.new ≡ self.old) }
         ensures same { OnErr result (self.new ≡ self.old) }
     {
-        self.follow_with(alloc, graph, first_sources(graph, cut.reads))
-    }
-
-    /// The same for an execution of which an excerpt alone is known.
-    pub fn follow_excerpt(
-        &mut self,
-        alloc: Global,
-        graph: &Graph,
-        excerpt: &Excerpt<'_>,
-    ) -> Result<Basis, AllocError>
-        ensures done { OnOk result (self.new ≡ sourced_of (excerpt_of graph.now excerpt.now)) }
-        ensures runs { IfOk result (λ b. b ≡ Sources → self.new.structure ≡ self.old.structure) }
-        ensures all { IfOk result (λ b. b ≡ Orders → self.new ≡ self.old) }
-        ensures same { OnErr result (self.new ≡ self.old) }
-    {
-        self.follow_with(alloc, graph, excerpt.sources)
+        self.follow_with(alloc, graph, sources_of(graph, part))
     }
 
     /// The same as `follow` for an execution that is known to have the same runs but for their values. They aren't compared, and
@@ -156,38 +151,21 @@ impl SourcedStructure {
         self.follow_on_with(alloc, graph, graph.rf())
     }
 
-    /// The same for such an execution that is cut down to what is known of it.
-    pub fn follow_cut_on(
+    /// The same for such an execution of which this is known.
+    pub fn follow_part_on(
         &mut self,
         alloc: Global,
         graph: &Graph,
-        cut: &Cut<'_>,
+        part: &Part<'_>,
     ) -> Result<Basis, AllocError>
         requires { self.old.structure ≡ structure_of graph.now }
-        ensures done { OnOk result (self.new ≡ sourced_of (cut_down graph.now cut.now)) }
+        ensures done { OnOk result (self.new ≡ sourced_of (part_of graph.now part.now)) }
         ensures structure { self.new.structure ≡ self.old.structure }
         ensures told { IfOk result (λ b. b ≢ Runs) }
         ensures all { IfOk result (λ b. b ≡ Orders → self.new ≡ self.old) }
         ensures same { OnErr result (self.new ≡ self.old) }
     {
-        self.follow_on_with(alloc, graph, first_sources(graph, cut.reads))
-    }
-
-    /// The same for such an execution of which an excerpt alone is known.
-    pub fn follow_excerpt_on(
-        &mut self,
-        alloc: Global,
-        graph: &Graph,
-        excerpt: &Excerpt<'_>,
-    ) -> Result<Basis, AllocError>
-        requires { self.old.structure ≡ structure_of graph.now }
-        ensures done { OnOk result (self.new ≡ sourced_of (excerpt_of graph.now excerpt.now)) }
-        ensures structure { self.new.structure ≡ self.old.structure }
-        ensures told { IfOk result (λ b. b ≢ Runs) }
-        ensures all { IfOk result (λ b. b ≡ Orders → self.new ≡ self.old) }
-        ensures same { OnErr result (self.new ≡ self.old) }
-    {
-        self.follow_on_with(alloc, graph, excerpt.sources)
+        self.follow_on_with(alloc, graph, sources_of(graph, part))
     }
 
     // The same as `follow` for an execution, if these are the sources of its reads.
