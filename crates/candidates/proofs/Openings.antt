@@ -11,7 +11,7 @@ use Rattle.events.specs.Cuts.{is_among, placed, first_before, known_of, known_fr
 use Rattle.events.specs.Executions.{ThreadRun}
 use Rattle.events.specs.Extends.{IsPartOfOne, Extends}
 use Rattle.events.proofs.Cutting.{among_in, in_among}
-use Rattle.listings.specs.Lists.{IsIn, NoRepeats, product_by, factorial, tabulate}
+use Rattle.listings.specs.Lists.{IsIn, NoRepeats, StandsAt, product_by, factorial, tabulate}
 use Rattle.listings.specs.Numbered.{digits, arrange}
 use Rattle.listings.proofs.Arrangements.{put, insert-put}
 use Rattle.candidates.specs.declared.depths.Known.{Known}
@@ -172,6 +172,13 @@ orders_known runs free k x (suc f) (y ∷ ys) i j at are e =
 
 -- OF CANDIDATES
 
+-- what stands among the first stands so in the whole
+stands_first : (m : ℕ) (ws : List EventId) (k : ℕ) (e : EventId) → StandsAt (take m ws) k e → StandsAt ws k e
+stands_first zero ws k e s = absurd s
+stands_first (suc m) [] k e s = absurd s
+stands_first (suc m) (w ∷ ws) zero e s = s
+stands_first (suc m) (w ∷ ws) (suc k) e s = stands_first m ws k e s
+
 extends_known : (init : List ℕ) (runs : List ThreadRun) (m free k i j : ℕ) → let c = count_co (length init) runs in let w = ways_of_orders runs free k (upto (length init)) in
     take m (rf_at runs (i / c)) ≡ take m (rf_at runs (j / c)) → (i % c) / w ≡ (j % c) / w → Extends (known_part (candidate init runs i) m free (take k (later_writes runs free))) (candidate init runs j)
 extends_known init runs m free k i j s e =
@@ -180,7 +187,7 @@ extends_known init runs m free k i j s e =
     record {
       init = refl;
       runs = refl;
-      rf = record { more = drop m (rf_at runs (j / c)); is = sym (take-append-drop m (rf_at runs (j / c))) ∙ ap (λ ws. ws ++ drop m (rf_at runs (j / c))) (sym s) };
+      rf = λ k e t. inl (let P : List EventId → Type 0 = λ ws. StandsAt ws k e in stands_first m (rf_at runs (j / c)) k e (subst P s t));
       co = orders_known runs free k 0 free (upto n) (i % c) (j % c) (omega arith) (from_tabulate n 0 (λ x. x) (λ x. let h : x ≡ 0 + x = omega arith in h)) e;
     }
 

@@ -3,7 +3,7 @@
 ghost use Rattle.std.specs.Prelude.{◌≡◌, ◌↔◌, ◌≤◌, length, map, true, IfOk, IfSome, IsTrue, OnErr, OnOk, List};
 ghost use Rattle.listings.specs.Lists.{Lists};
 ghost use Rattle.events.specs.Executions.{GraphValue};
-ghost use Rattle.events.specs.Cuts.{cut_down};
+ghost use Rattle.events.specs.Cuts.{part_of, IsOfEvents};
 ghost use Rattle.events.specs.Extends.{Extends};
 ghost use Rattle.events.specs.Opened.{IsWithin, opened};
 ghost use Rattle.events.specs.Structures.{sourced_of, structure_of};
@@ -29,7 +29,7 @@ use crate::refuting::refutes_by;
 use crate::step::Step;
 use crate::value::Value;
 use cat_model::Named;
-use events::{Basis, Cut, Graph, GraphView, SourcedStructure, laws};
+use events::{Basis, Cut, Graph, GraphView, Part, SourcedStructure, laws};
 use relations::Rel;
 use std::alloc::{AllocError, Global};
 
@@ -88,25 +88,25 @@ fn follow(
     sourced.follow(alloc, graph)
 }
 
-// The same for an execution that is cut down to what is known of it.
+// The same for an execution of which this is known.
 #[inline(always)]
-fn follow_cut(
+fn follow_part(
     sourced: &mut SourcedStructure,
     relies: bool,
     alloc: Global,
     graph: &Graph,
-    cut: &Cut<'_>,
+    part: &Part<'_>,
 ) -> Result<Basis, AllocError>
     requires { IsTrue relies → sourced.old.structure ≡ structure_of graph.now }
-    ensures done { OnOk result (sourced.new ≡ sourced_of (cut_down graph.now cut.now)) }
+    ensures done { OnOk result (sourced.new ≡ sourced_of (part_of graph.now part.now)) }
     ensures runs { IfOk result (λ b. b ≡ Sources → sourced.new.structure ≡ sourced.old.structure) }
     ensures all { IfOk result (λ b. b ≡ Orders → sourced.new ≡ sourced.old) }
     ensures same { OnErr result (sourced.new ≡ sourced.old) }
 {
     if relies {
-        return sourced.follow_cut_on(alloc, graph, cut);
+        return sourced.follow_part_on(alloc, graph, part);
     }
-    sourced.follow_cut(alloc, graph, cut)
+    sourced.follow_part(alloc, graph, part)
 }
 
 // Judges an execution over what it has in common with the one before.
@@ -161,7 +161,7 @@ fn judge_open_over(
 fn refutes_over(
     sourced: &SourcedStructure,
     graph: &Graph,
-    cut: Cut<'_>,
+    part: Part<'_>,
     code: &Code<'_, '_>,
     growths: &[Growth],
     count: usize,
@@ -169,16 +169,17 @@ fn refutes_over(
     values: &mut [Value],
     room: &mut Rel,
 ) -> Option<usize>
-    requires sourced { sourced.now ≡ sourced_of (cut_down graph.now cut) }
+    requires part { IsOfEvents graph.now part }
+    requires sourced { sourced.now ≡ sourced_of (part_of graph.now part) }
     requires code { IsCode code.now }
-    requires absent { AreAbsent code.now.absent.now (cut_down graph.now cut) }
+    requires absent { AreAbsent code.now.absent.now (part_of graph.now part) }
     requires grown { AreGrown Extended code.now.steps.now code.now.items.now growths.now }
     requires count { count ≤ length code.now.items.now }
-    requires kept { Keeps (cut_down graph.now cut) code.now kept.old values.old }
-    ensures kept { Keeps (cut_down graph.now cut.entry) code.now kept.new values.new }
-    ensures refuted { IfSome result (λ _. (h : GraphValue) → Extends (cut_down graph.now cut.entry) h → ¬ Allowed (clauses_of code.now) h) }
+    requires kept { Keeps (part_of graph.now part) code.now kept.old values.old }
+    ensures kept { Keeps (part_of graph.now part.entry) code.now kept.new values.new }
+    ensures refuted { IfSome result (λ _. (h : GraphValue) → Extends (part_of graph.now part.entry) h → ¬ Allowed (clauses_of code.now) h) }
 {
-    let view = GraphView::over_cut(sourced, graph, cut, room);
+    let view = GraphView::over_part(sourced, graph, part, room);
     refutes_by(&view, code, growths, count, kept, values)
 }
 
@@ -203,23 +204,23 @@ impl Workings {
         Ok(())
     }
 
-    /// The same for an execution that is cut down to what is known of it.
+    /// The same for an execution of which this is known.
     #[inline(always)]
-    pub(crate) fn follow_cut(
+    pub(crate) fn follow_part(
         &mut self,
         alloc: Global,
         graph: &Graph,
-        cut: &Cut<'_>,
+        part: &Part<'_>,
         relies: bool,
     ) -> Result<(), AllocError>
         requires { IsTrue relies → self.old.sourced.structure ≡ structure_of graph.now }
         ensures works { (items : List PlannedItemValue) → WorksFor items self.old → WorksFor items self.new }
         ensures absent { self.new.absent ≡ self.old.absent }
-        ensures done { OnOk result (self.new.sourced ≡ sourced_of (cut_down graph.now cut.now)) }
+        ensures done { OnOk result (self.new.sourced ≡ sourced_of (part_of graph.now part.now)) }
         ensures same { OnErr result (self.new.sourced ≡ self.old.sourced) }
     {
         laws::bases();
-        let changed = follow_cut(&mut self.sourced, relies, alloc, graph, cut)?;
+        let changed = follow_part(&mut self.sourced, relies, alloc, graph, part)?;
         self.kept = self.kept.without(changed);
         Ok(())
     }
@@ -326,16 +327,17 @@ impl Workings {
         Ok(judgement.if_allowed())
     }
 
-    /// Whether it is known of the execution that was followed last, cut down, that a model of these items allows none that goes on from it.
+    /// Whether it is known of the execution that was followed last, as far as it is known, that a model of these items allows none that goes on from it.
     #[inline(always)]
-    pub(crate) fn refutes(&mut self, items: &[PlannedItem<'_>], graph: &Graph, cut: Cut<'_>) -> bool
+    pub(crate) fn refutes(&mut self, items: &[PlannedItem<'_>], graph: &Graph, part: Part<'_>) -> bool
+        requires part { IsOfEvents graph.now part }
         requires works { WorksFor items.now self.old }
-        requires absent { AreAbsent self.old.absent.items (cut_down graph.now cut) }
-        requires followed { self.old.sourced ≡ sourced_of (cut_down graph.now cut) }
+        requires absent { AreAbsent self.old.absent.items (part_of graph.now part) }
+        requires followed { self.old.sourced ≡ sourced_of (part_of graph.now part) }
         ensures works { WorksFor items.now self.new }
         ensures absent { self.new.absent ≡ self.old.absent }
         ensures sourced { self.new.sourced ≡ self.old.sourced }
-        ensures refuted { IsTrue result → (h : GraphValue) → Extends (cut_down graph.now cut.entry) h → ¬ Allowed (map planned_clause items.now) h }
+        ensures refuted { IsTrue result → (h : GraphValue) → Extends (part_of graph.now part.entry) h → ¬ Allowed (map planned_clause items.now) h }
     {
         laws::bases();
         let code = Code {
@@ -349,7 +351,7 @@ impl Workings {
         let refuted = refutes_over(
             &self.sourced,
             graph,
-            cut,
+            part,
             &code,
             &self.growths,
             count,

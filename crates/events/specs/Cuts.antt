@@ -52,10 +52,18 @@ cut_down g c = known_part g c.reads c.locations c.unplaced.now
 abbrev pub excerpt_of : GraphValue → Excerpt → GraphValue
 excerpt_of g x = record { init = g.init; runs = g.runs; rf = x.sources.now; co = x.order.now ∷ [] }
 
+-- the sources that are known of an execution's reads, and what is known of its orders
+abbrev pub sources_known : GraphValue → Part → List EventId
+sources_known g (parts.Cut c) = take c.reads g.rf
+sources_known g (parts.Excerpt x) = x.sources.now
+
+abbrev pub orders_known : GraphValue → Part → List (List EventId)
+orders_known g (parts.Cut c) = known_from c.locations c.unplaced.now 0 g.co
+orders_known g (parts.Excerpt x) = x.order.now ∷ []
+
 -- an execution of which a part alone is known
 abbrev pub part_of : GraphValue → Part → GraphValue
-part_of g (parts.Cut c) = cut_down g c
-part_of g (parts.Excerpt x) = excerpt_of g x
+part_of g p = record { init = g.init; runs = g.runs; rf = sources_known g p; co = orders_known g p }
 
 -- The order of an excerpt is one of events of the execution.
 abbrev pub IsOfEvents : GraphValue → Part → Type 0

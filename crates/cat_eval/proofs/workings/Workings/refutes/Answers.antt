@@ -3,7 +3,7 @@ use Rattle.std.specs.Prelude.{IfSome, IsTrue}
 use Rattle.std.specs.Option.{is_some}
 use Rattle.std.proofs.lemmas.Bool.{false≢true}
 use Rattle.events.specs.Executions.{GraphValue}
-use Rattle.events.specs.Cuts.{cut_down}
+use Rattle.events.specs.Cuts.{part_of}
 use Rattle.events.specs.Extends.{Extends}
 use Rattle.cat_eval.specs.declared.step.Step.{Step}
 use Rattle.cat_eval.specs.declared.value.Value.{Value}
@@ -28,14 +28,14 @@ pub refutes_over-refuted-requires-clause-kept : goal.refutes_over-refuted-requir
 refutes_over-refuted-requires-clause-kept c = record {
   long = ap length c.deref_mut.ensures.value ∙ c.requires.works.values ∙ sym (ap length c.deref.ensures.value);
   holds = rw (c.deref.ensures.value, c.deref_mut.ensures.value)
-      (holds_followed c.args.items.now c.args.self.now (cut_down c.args.graph.now c.args.cut)
+      (holds_followed c.args.items.now c.args.self.now (part_of c.args.graph.now c.args.part)
       (record { counts = c.bases.ensures.counts; like = c.bases.ensures.plain; sets = c.bases.ensures.sets; runs = c.bases.ensures.runs; sources = c.bases.ensures.sources }) c.requires.followed c.requires.works);
 }
 
 pub returns-clause-works : goal.returns-clause-works
 returns-clause-works c =
     let w = c.args.self.now in
-    let g = cut_down c.args.graph.now c.args.cut in
+    let g = part_of c.args.graph.now c.args.part in
     let old : List Value = w.values.items in
     let new : List Value = c.refutes_over-refuted.new.values in
     let a = c.refutes_over-refuted.ensures.kept.long in
@@ -57,4 +57,4 @@ of_some {T} None b P e h t = absurd (false≢true (sym e ∙ t))
 
 pub returns-clause-refuted : goal.returns-clause-refuted
 returns-clause-refuted c =
-    of_some c.refutes_over-refuted.result c.is_some.result ((h : GraphValue) → Extends (cut_down c.args.graph.now c.args.cut) h → ¬ Allowed (map planned_clause c.args.items.now) h) c.is_some.ensures c.refutes_over-refuted.ensures.refuted
+    of_some c.refutes_over-refuted.result c.is_some.result ((h : GraphValue) → Extends (part_of c.args.graph.now c.args.part) h → ¬ Allowed (map planned_clause c.args.items.now) h) c.is_some.ensures c.refutes_over-refuted.ensures.refuted
