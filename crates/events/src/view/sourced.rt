@@ -111,6 +111,13 @@ impl SourcedStructure {
         })
     }
 
+    /// Whether an execution has the same runs as its own but for their values.
+    pub fn is_of(&self, graph: &Graph) -> bool
+        ensures { IsTrue result ↔ (self.now.structure ≡ structure_of graph.now) }
+    {
+        self.structure.is_of(graph)
+    }
+
     /// Becomes that of an execution, and tells what of it may be another than before: `Runs` if all may be, `Sources` if the
     /// runs are the same but for their values, `Orders` if the read-from map is the same, too. It takes memory where it is another
     /// than before.
@@ -181,7 +188,7 @@ impl SourcedStructure {
         ensures all { IfOk result (λ b. b ≡ Orders → self.new ≡ self.old) }
         ensures same { OnErr result (self.new ≡ self.old) }
     {
-        if !self.structure.is_of(graph) {
+        if !self.is_of(graph) {
             self.follow_runs(alloc, graph, sources)?;
             return Ok(Basis::Runs);
         }
