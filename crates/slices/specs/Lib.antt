@@ -3,11 +3,12 @@ pub mod Codes
 pub mod Counts
 pub mod Courses
 pub mod Finals
+pub mod Features
 pub mod Findings
 pub mod Fronts
 pub mod Gathered
 pub mod Judgements
-pub mod Misplaced
+pub mod Lessons
 pub mod Numbers
 pub mod Parts
 pub mod Passing

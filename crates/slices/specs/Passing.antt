@@ -5,7 +5,7 @@ use Rattle.cat_tree.specs.Tree.{Clause}
 use Rattle.events.specs.Executions.{GraphValue}
 use Rattle.candidates.specs.Candidates.{Choices, graph_at}
 use Rattle.candidates.specs.Walks.{Walking}
-use Rattle.slices.specs.Misplaced.{AreLearned}
+use Rattle.slices.specs.Lessons.{AreLearned}
 use Rattle.slices.specs.declared.pruning.Pruner.{Pruner}
 
 -- A model of these items allows no execution at the numbers from a to before b.
@@ -31,6 +31,6 @@ pub record HasGoneOver (items : List Clause) (v w : Walking) : Type 0 where
   pub none : NoneAllowed items v.space v.next w.next
 
 -- What the pruner keeps is right for these candidates: a model of these items allows none at the numbers that were refuted last, and what was learned
--- of pairs of writes holds under it.
+-- of features holds under it.
 abbrev pub Knows : Choices → List Clause → Pruner → Type 0
-Knows s items p = NoneAllowed items s p.refuted.from p.refuted.to × AreLearned items p.misplaced
+Knows s items p = NoneAllowed items s p.refuted.from p.refuted.to × AreLearned s items p.lessons

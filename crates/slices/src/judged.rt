@@ -4,7 +4,7 @@ ghost use Rattle.std.specs.Prelude.{◌≡◌, ◌-◌, Some, IfOk, IfSome};
 ghost use Rattle.candidates.specs.Candidates.{graph_at};
 ghost use Rattle.events.specs.Structures.{structure_of};
 ghost use Rattle.slices.specs.Judgements.{IsSaid};
-ghost use Rattle.slices.specs.Misplaced.{AreLearned};
+ghost use Rattle.slices.specs.Lessons.{AreLearned};
 
 use crate::alike::alike_behind;
 use crate::pruning::Pruner;
@@ -33,11 +33,11 @@ fn judge_shown(
     requires shown { graph_at walk.now.space (walk.now.next - 1) ≡ Some walk.now.shown }
     requires relied { IfSome evaluator.old.relied (λ s. s ≡ structure_of walk.now.shown) }
     requires model { evaluator.old.items ≡ work.now.model.items }
-    requires learned { AreLearned evaluator.old.items pruner.old.misplaced }
+    requires learned { AreLearned walk.now.space evaluator.old.items pruner.old.lessons }
     ensures relied { IfSome evaluator.new.relied (λ s. s ≡ structure_of walk.now.shown) }
     ensures model { evaluator.new.items ≡ evaluator.old.items }
     ensures refuted { pruner.new.refuted ≡ pruner.old.refuted }
-    ensures learned { AreLearned evaluator.old.items pruner.new.misplaced }
+    ensures learned { AreLearned walk.now.space evaluator.old.items pruner.new.lessons }
     ensures said { IfOk result (IsSaid evaluator.old.items walk.now) }
 {
     let graph = walk.graph();
@@ -58,11 +58,11 @@ pub(crate) fn judge(
     requires shown { graph_at walk.now.space (walk.now.next - 1) ≡ Some walk.now.shown }
     requires relied { IfSome evaluator.old.relied (λ s. s ≡ structure_of walk.now.shown) }
     requires model { evaluator.old.items ≡ work.now.model.items }
-    requires learned { AreLearned evaluator.old.items pruner.old.misplaced }
+    requires learned { AreLearned walk.now.space evaluator.old.items pruner.old.lessons }
     ensures relied { IfSome evaluator.new.relied (λ s. s ≡ structure_of walk.now.shown) }
     ensures model { evaluator.new.items ≡ evaluator.old.items }
     ensures refuted { pruner.new.refuted ≡ pruner.old.refuted }
-    ensures learned { AreLearned evaluator.old.items pruner.new.misplaced }
+    ensures learned { AreLearned walk.now.space evaluator.old.items pruner.new.lessons }
     ensures said { IfOk result (IsSaid evaluator.old.items walk.now) }
 {
     match pruner.judge_block(alloc, evaluator, walk)? {

@@ -78,7 +78,7 @@ impl Made {
         ensures { IfOk result (λ m. m ≡ work.now) }
     {
         let ready = evaluator_of(alloc, work.work())?.without_model();
-        let pruner = Box::new(alloc, Pruner::new(work.work().model()))?;
+        let pruner = Box::new(alloc, Pruner::new(alloc, work.work().model()))?;
         let paused = Box::new(alloc, PausedWalk::new(alloc))?;
         let found = Finding::nothing(alloc, work.share()?)?;
         let nothing = FindingRef::new(alloc, found)?;

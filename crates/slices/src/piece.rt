@@ -85,7 +85,7 @@ pub fn evaluate(alloc: Global, piece: &Piece) -> Result<PieceResult, AllocError>
     let work = piece.work.work();
     let space = space_of(alloc, work)?;
     let mut evaluator = evaluator_of(alloc, work)?;
-    let mut pruner = Pruner::new(work.model());
+    let mut pruner = Pruner::new(alloc, work.model());
     let Span { from, to } = piece.span();
     let mut walk = space.walk(alloc, from, to);
     evaluate_in(alloc, &mut walk, &mut evaluator, &mut pruner, piece)

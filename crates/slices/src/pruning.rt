@@ -5,18 +5,19 @@ ghost use Rattle.candidates.specs.Candidates.{Choices, graph_at};
 ghost use Rattle.cat_tree.specs.Tree.{Clause};
 ghost use Rattle.events.specs.Structures.{structure_of};
 ghost use Rattle.slices.specs.Judgements.{IsSaid};
-ghost use Rattle.slices.specs.Misplaced.{AreLearned};
+ghost use Rattle.slices.specs.Lessons.{AreLearned};
 ghost use Rattle.slices.specs.Passing.{ArePassed, HasGoneOver, IsForbidden, Knows, NoneAllowed};
 
 use crate::judged::Judged;
-use crate::misplaced::Misplaced;
+use crate::lesson::Forbidden;
+use crate::lessons::Lessons;
 use crate::prospects::Prospects;
 use crate::span::Span;
 use candidates::Walk;
 use cat_eval::{Evaluator, Judgement, is_orderless};
 use cat_model::Model;
 use cat_tree::Item;
-use events::Graph;
+use events::{Graph, Part};
 use std::alloc::{AllocError, Global};
 
 /// Passes over executions that a model forbids for a reason that they share, and finds those that it allows whatever their orders are.
@@ -28,8 +29,8 @@ pub struct Pruner {
     prospects: Prospects,
     /// The numbers that were refuted last; none at first.
     refuted: Span,
-    /// Writes whose order the model forbids, whatever else an execution is.
-    misplaced: Misplaced,
+    /// What was learned of features that no allowed execution has.
+    lessons: Lessons,
 }
 
 // A function of its own: whoever holds one drops it by a call.
@@ -40,7 +41,7 @@ impl Drop for Pruner {
             orderless: _,
             prospects: _,
             refuted: _,
-            misplaced: _,
+            lessons: _,
         } = self;
     }
 }
@@ -55,7 +56,7 @@ fn may_refute(item: &Item) -> bool {
 
 impl Pruner {
     /// For executions that are judged under this model.
-    pub fn new(model: &Model) -> Self
+    pub fn new(alloc: Global, model: &Model) -> Self
         ensures known { (s : Choices) (items : List Clause) → Knows s items result }
     {
         Pruner {
@@ -63,7 +64,7 @@ impl Pruner {
             orderless: is_orderless(model),
             prospects: Prospects::new(),
             refuted: Span { from: 0, to: 0 },
-            misplaced: Misplaced::new(),
+            lessons: Lessons::new(alloc),
         }
     }
 
@@ -72,7 +73,7 @@ impl Pruner {
     pub(crate) fn begin(&mut self, walk: &mut Walk<'_>, from: u64)
         requires from { walk.old.next ≡ from }
         ensures refuted { self.new.refuted ≡ self.old.refuted }
-        ensures misplaced { self.new.misplaced ≡ self.old.misplaced }
+        ensures lessons { self.new.lessons ≡ self.old.lessons }
         ensures passed { (items : List Clause) → Knows walk.old.space items self.old → HasGoneOver items walk.old walk.new }
     {
         self.prospects.begin(from);
@@ -100,7 +101,7 @@ impl Pruner {
         ensures relied { IfSome evaluator.new.relied (λ s. s ≡ structure_of walk.now.shown) }
         ensures model { evaluator.new.items ≡ evaluator.old.items }
         ensures refuted { self.new.refuted ≡ self.old.refuted }
-        ensures misplaced { self.new.misplaced ≡ self.old.misplaced }
+        ensures lessons { self.new.lessons ≡ self.old.lessons }
         ensures forbidden { IfOk result (λ end. IfSome end (IsForbidden evaluator.old.items walk.now)) }
     {
         if !self.prospects.pay(depth) {
@@ -110,11 +111,53 @@ impl Pruner {
             Some(block) => block,
             None => return Ok(None),
         };
-        if !evaluator.refutes(alloc, walk.graph(), block.cut)? {
+        if !evaluator.refutes(alloc, walk.graph(), Part::Cut(block.cut))? {
             return Ok(None);
         }
         self.prospects.earn(depth);
         Ok(Some(block.end))
+    }
+
+    /// A block around the execution at this number, which the walk found last, in which it is known that the evaluator's model allows none: the coarsest that is
+    /// found by asking, or the widest of which that was learned.
+    fn forbidden_around(
+        &mut self,
+        alloc: Global,
+        evaluator: &mut Evaluator<'_>,
+        walk: &Walk<'_>,
+        number: u64,
+    ) -> Result<Option<u64>, AllocError>
+        requires found { walk.now.next ≡ number + 1 }
+        requires shown { graph_at walk.now.space number ≡ Some walk.now.shown }
+        requires relied { IfSome evaluator.old.relied (λ s. s ≡ structure_of walk.now.shown) }
+        requires learned { AreLearned walk.now.space evaluator.old.items self.old.lessons }
+        ensures relied { IfSome evaluator.new.relied (λ s. s ≡ structure_of walk.now.shown) }
+        ensures model { evaluator.new.items ≡ evaluator.old.items }
+        ensures refuted { self.new.refuted ≡ self.old.refuted }
+        ensures learned { AreLearned walk.now.space evaluator.old.items self.new.lessons }
+        ensures forbidden { IfOk result (λ end. IfSome end (IsForbidden evaluator.old.items walk.now)) }
+    {
+        let learned = self.lessons.forbidden_around(walk, number);
+        let depths = match learned {
+            Some(block) => block.depth,
+            None => walk.depths(),
+        };
+        for depth in self.prospects.leave(number)..depths {
+            if self.orderless && walk.knows_places(depth) {
+                break;
+            }
+            if let Some(end) = self.ask(alloc, evaluator, walk, depth)? {
+                return Ok(Some(end));
+            }
+            self.prospects.enter(depth, walk.end_of(depth));
+        }
+        match learned {
+            Some(block) => {
+                self.prospects.forbid();
+                Ok(Some(block.end))
+            }
+            None => Ok(None),
+        }
     }
 
     /// Goes on over the execution at this number, which the walk found last, and over a block around it, if it is known that the
@@ -138,25 +181,15 @@ impl Pruner {
         if !self.may_refute || self.prospects.are_early() {
             return Ok(false);
         }
-        if self.misplaced.passes(alloc, walk, number)? {
-            self.prospects.forbid();
-            return Ok(true);
-        }
-        for depth in self.prospects.leave(number)..walk.depths() {
-            if self.orderless && walk.knows_places(depth) {
-                break;
-            }
-            if let Some(end) = self.ask(alloc, evaluator, walk, depth)? {
-                self.refuted = Span {
-                    from: number,
-                    to: end,
-                };
-                walk.pass(end);
-                return Ok(true);
-            }
-            self.prospects.enter(depth, walk.end_of(depth));
-        }
-        Ok(false)
+        let Some(end) = self.forbidden_around(alloc, evaluator, walk, number)? else {
+            return Ok(false);
+        };
+        self.refuted = Span {
+            from: number,
+            to: end,
+        };
+        walk.pass(end);
+        Ok(true)
     }
 
     /// What is said at once of the executions of the block of a depth that begins with the one found last, if it is known that the model
@@ -172,7 +205,7 @@ impl Pruner {
         ensures relied { IfSome evaluator.new.relied (λ s. s ≡ structure_of walk.now.shown) }
         ensures model { evaluator.new.items ≡ evaluator.old.items }
         ensures refuted { self.new.refuted ≡ self.old.refuted }
-        ensures misplaced { self.new.misplaced ≡ self.old.misplaced }
+        ensures lessons { self.new.lessons ≡ self.old.lessons }
         ensures said { IfOk result (λ r. IfSome r (IsSaid evaluator.old.items walk.now)) }
     {
         if !self.prospects.may_open(depth) {
@@ -206,7 +239,7 @@ impl Pruner {
         ensures relied { IfSome evaluator.new.relied (λ s. s ≡ structure_of walk.now.shown) }
         ensures model { evaluator.new.items ≡ evaluator.old.items }
         ensures refuted { self.new.refuted ≡ self.old.refuted }
-        ensures misplaced { self.new.misplaced ≡ self.old.misplaced }
+        ensures lessons { self.new.lessons ≡ self.old.lessons }
         ensures said { IfOk result (λ r. IfSome r (IsSaid evaluator.old.items walk.now)) }
     {
         if self.prospects.opens() >= walk.depths() {
@@ -227,7 +260,7 @@ impl Pruner {
         ensures relied { IfSome evaluator.new.relied (λ s. s ≡ structure_of walk.now.shown) }
         ensures model { evaluator.new.items ≡ evaluator.old.items }
         ensures refuted { self.new.refuted ≡ self.old.refuted }
-        ensures misplaced { self.new.misplaced ≡ self.old.misplaced }
+        ensures lessons { self.new.lessons ≡ self.old.lessons }
         ensures said { IfOk result (λ r. IfSome r (IsSaid evaluator.old.items walk.now)) }
     {
         for depth in self.prospects.opens()..walk.depths() {
@@ -241,7 +274,7 @@ impl Pruner {
     /// Notes what was said of an execution that wasn't passed over.
     pub fn note(&mut self, judgement: &Judgement)
         ensures refuted { self.new.refuted ≡ self.old.refuted }
-        ensures misplaced { self.new.misplaced ≡ self.old.misplaced }
+        ensures lessons { self.new.lessons ≡ self.old.lessons }
     {
         self.prospects.note(judgement.allowed());
     }
@@ -254,17 +287,16 @@ impl Pruner {
         graph: &Graph,
         judgement: &Judgement,
     ) -> Result<(), AllocError>
-        requires learned { AreLearned evaluator.old.items self.old.misplaced }
         requires relied { IfSome evaluator.old.relied (λ s. s ≡ structure_of graph.now) }
         ensures relied { IfSome evaluator.new.relied (λ s. s ≡ structure_of graph.now) }
         ensures model { evaluator.new.items ≡ evaluator.old.items }
         ensures refuted { self.new.refuted ≡ self.old.refuted }
-        ensures learned { AreLearned evaluator.old.items self.new.misplaced }
+        ensures learned { (s : Choices) → AreLearned s evaluator.old.items self.old.lessons → AreLearned s evaluator.old.items self.new.lessons }
     {
         self.note(judgement);
         if judgement.allowed() || !self.may_refute || self.prospects.are_early() {
             return Ok(());
         }
-        self.misplaced.learn(alloc, evaluator, graph)
+        self.lessons.learn(alloc, evaluator, graph)
     }
 }

@@ -45,7 +45,7 @@ impl<'m> ModelJudge<'m> {
     {
         let none = nothing(alloc);
         let evaluator = Evaluator::of(alloc, model, &none)?;
-        let pruner = Pruner::new(model);
+        let pruner = Pruner::new(alloc, model);
         Ok(ModelJudge { evaluator, pruner })
     }
 
@@ -69,7 +69,7 @@ impl<'m> ModelJudge<'m> {
     fn allows(&mut self, alloc: Global, graph: &Graph) -> Result<bool, AllocError>
         ensures items { self.new.evaluator.items ≡ self.old.evaluator.items }
         ensures refuted { self.new.pruner.refuted ≡ self.old.pruner.refuted }
-        ensures misplaced { self.new.pruner.misplaced ≡ self.old.pruner.misplaced }
+        ensures lessons { self.new.pruner.lessons ≡ self.old.pruner.lessons }
         ensures allowed { IfOk result (λ allowed. IsTrue allowed ↔ Allowed self.old.evaluator.items graph.now) }
     {
         self.evaluator.forget_runs();

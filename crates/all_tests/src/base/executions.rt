@@ -8,7 +8,7 @@ use crate::names::name;
 use crate::rows::{again, all_hold, expect, meant};
 use cat_model::Named;
 use events::EventId::{Initial, Own};
-use events::{Basis, Coherence, Cut, EventId, Graph, GraphView, Order, SourcedStructure};
+use events::{Basis, Coherence, Cut, EventId, Graph, GraphView, Order, Part, SourcedStructure};
 use relations::{Rel, Set};
 use std::alloc::{AllocError, Global};
 
@@ -217,7 +217,7 @@ fn follows_on(
         locations: 0,
         unplaced: &[],
     };
-    let cut = sourced.follow_cut_on(alloc, execution, &without)?;
+    let cut = sourced.follow_part_on(alloc, execution, &Part::Cut(without))?;
     let whole = sourced.follow_on(alloc, execution)?;
     let same = sourced.follow_on(alloc, execution)?;
     Ok(cut == Basis::Sources && whole == Basis::Sources && same == Basis::Orders)

@@ -5,7 +5,7 @@ use crate::graphs::{STORE_BUFFERING, graph};
 use crate::rows::all_hold;
 use cat_eval::{Evaluator, judge};
 use cat_model::Model;
-use events::{Cut, EventId, Graph, GraphView, Order};
+use events::{Cut, EventId, Graph, GraphView, Order, Part};
 use std::alloc::{AllocError, Global};
 
 /// Message passing, where the flag is seen and the first read of the message reads the initial write. What the second one reads is not
@@ -47,8 +47,8 @@ fn says_twice(
         unplaced: &flag,
     };
     let mut evaluator = Evaluator::of(alloc, model, execution)?;
-    let first = evaluator.refutes(alloc, execution, cut)?;
-    let second = evaluator.refutes(alloc, execution, cut)?;
+    let first = evaluator.refutes(alloc, execution, Part::Cut(cut))?;
+    let second = evaluator.refutes(alloc, execution, Part::Cut(cut))?;
     let other = graph(alloc, STORE_BUFFERING, Order::Rlx)?;
     let judges = judges_another(alloc, model, &mut evaluator, &other)?;
     Ok(first == known && second == known && judges)
