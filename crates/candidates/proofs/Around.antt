@@ -5,7 +5,8 @@ use Rattle.events.specs.Executions.{GraphValue}
 use Rattle.candidates.specs.declared.depths.Depth.{Depth}
 use Rattle.candidates.specs.declared.page.Scene.{Scene}
 use Rattle.candidates.specs.declared.walk.Section.{Section}
-use Rattle.candidates.specs.Blocks.{AllExtend, cut_of}
+use Rattle.candidates.specs.Blocks.{AllExtend, AllHaveWrites, HasWritesOf, cut_of}
+use Rattle.candidates.proofs.Writes.{same_writes}
 use Rattle.candidates.specs.Candidates.{Choices, candidate, graph_at, is_consistent}
 use Rattle.candidates.specs.Depths.{cut_at, depths_of, end_at, place_of}
 use Rattle.candidates.specs.Walks.{HasNoSection, IsSection, IsJustFound, IsScene}
@@ -51,6 +52,16 @@ block_extends s c n k r v h e =
     let seen = v.seen (omega (arith, h.within)) in
     let P : GraphValue → Type 0 = λ x. AllExtend s (n - 1) r.end (cut_of r.known x) in
     subst P (ap (candidate s.init c.stretch.page.runs.items) e ∙ sym seen.0) h.extend
+
+-- And each has the writes of the one that is shown in its orders.
+pub block_writes : (s : Choices) (c : Scene) (n k : ℕ) (r : Section) → IsScene s c → IsSection s c.stretch n k r → AllHaveWrites s (n - 1) r.end c.graph
+block_writes s c n k r v h = λ m lo hi x at. (
+    let seen = v.seen (omega (arith, h.within)) in
+    let runs = c.stretch.page.runs.items in
+    let a = h.alike m lo hi x at in
+    let P : GraphValue → Type 0 = λ g. HasWritesOf g x in
+    let Q : GraphValue → Type 0 = HasWritesOf (candidate s.init runs c.hit.at) in
+    subst P (sym seen.0) (subst Q (sym a.1) (same_writes s.init runs c.hit.at a.0)))
 
 -- What is shown stands at its number.
 pub shown_at : (s : Choices) (c : Scene) → IsScene s c → 1 ≤ c.stretch.size → graph_at s (c.stretch.first + c.hit.at) ≡ Some c.graph

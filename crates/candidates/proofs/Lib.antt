@@ -36,6 +36,7 @@ pub mod Suiting
 pub mod Tails
 pub mod Tallies
 pub mod Walked
+pub mod Writes
 pub mod Writing
 pub mod Pages
 pub mod Renumbering

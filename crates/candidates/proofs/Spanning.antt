@@ -12,9 +12,9 @@ use Rattle.candidates.specs.declared.depths.Known.{Known}
 use Rattle.candidates.specs.declared.depths.Known.TheVariants.{Sources, Orders}
 use Rattle.candidates.specs.declared.page.Stretch.{Stretch}
 use Rattle.candidates.specs.Executions.{reads, upto, block}
-use Rattle.candidates.specs.Candidates.{Choices, candidate, candidate_at, is_consistent, size_of, count_sources, count_co}
+use Rattle.candidates.specs.Candidates.{Choices, candidate, candidate_at, graph_at, is_consistent, size_of, count_sources, count_co}
 use Rattle.candidates.specs.Readings.{IsStretch}
-use Rattle.candidates.specs.Blocks.{AllExtend, IsDepth, size_by, cut_of}
+use Rattle.candidates.specs.Blocks.{AllExtend, AllOfRuns, IsDepth, size_by, cut_of}
 use Rattle.candidates.specs.Depths.{has_places, knows_places}
 use Rattle.candidates.specs.Walks.{IsSection}
 use Rattle.candidates.proofs.Cutting.{ways_divide, sources_split}
@@ -58,9 +58,10 @@ stands : (b : Bool) (x y : GraphValue) → (if b then Some x else None) ≡ Some
 stands true x y e = some_one x y e
 stands false x y e = absurd (none_some y e)
 
--- From a number j of a stretch to the end of its block all executions extend what the block's candidates extend.
-spans : (s : Choices) (b : Stretch) → IsStretch s b → (j d t : ℕ) (g : GraphValue) → j < b.size → b.size ≡ d * t → ((i : ℕ) → j / d ≡ i / d → Extends g (candidate s.init b.page.runs.items i)) → AllExtend s (b.first + j) (b.first + j + (d - j % d)) g
-spans s b h j d t g l e f = λ m lo hi x at. (
+-- From a number j of a stretch to the end of its block all executions are what the block's candidates are.
+spans : (s : Choices) (b : Stretch) → IsStretch s b → (j d t : ℕ) (P : GraphValue → Type 0) → j < b.size → b.size ≡ d * t → ((i : ℕ) → j / d ≡ i / d → P (candidate s.init b.page.runs.items i)) →
+    (m : ℕ) → b.first + j ≤ m → m < b.first + j + (d - j % d) → (x : GraphValue) → graph_at s m ≡ Some x → P x
+spans s b h j d t P l e f = λ m lo hi x at. (
     let q : ℕ = j / d in
     let p : 0 < d = divides_pos j d t b.size e l in
     let below : q * d + d ≤ b.size = ends_within j d t b.size e l in
@@ -69,7 +70,6 @@ spans s b h j d t g l e f = λ m lo hi x at. (
     let i : ℕ = m - b.first in
     let is : m ≡ b.first + i = omega (arith, lo) in
     let same : j / d ≡ i / d = sym (quotient_is i q d (omega (arith, lo, first)) (omega (arith, lo, hi, first, rest))) in
-    let P : GraphValue → Type 0 = λ y. Extends g y in
     let here : candidate_at s m ≡ candidate s.init b.page.runs.items i = ap (λ z. candidate_at s z) is ∙ h.at i (omega (arith, lo, hi, below, first, rest)) in
     subst P (sym here ∙ stands (is_consistent (candidate_at s m)) (candidate_at s m) x at) (f i same))
 
@@ -117,6 +117,8 @@ section_is s b h d k j n e l at is i inside found =
     let Q : ℕ → ℕ → Type 0 = λ y z. AllExtend s y z (cut_of d.known (candidate init runs j)) in
     let Q1 : ℕ → Type 0 = λ y. Q y e in
     let Q2 : ℕ → Type 0 = λ z. Q (b.first + j) z in
+    let R1 : ℕ → Type 0 = λ y. AllOfRuns s y e runs in
+    let R2 : ℕ → Type 0 = λ z. AllOfRuns s (b.first + j) z runs in
     record {
       at = d;
       inside = inside;
@@ -129,7 +131,8 @@ section_is s b h d k j n e l at is i inside found =
       fits = k.fits;
       later = omega (arith, there, at, r.0);
       most = omega (arith, there, r.1, most);
-      extend = subst Q1 (sym here) (subst Q2 (sym there) (spans s b h j d.size w.0 (cut_of d.known (candidate init runs j)) l whole f));
+      extend = subst Q1 (sym here) (subst Q2 (sym there) (spans s b h j d.size w.0 (Extends (cut_of d.known (candidate init runs j))) l whole f));
+      alike = subst R1 (sym here) (subst R2 (sym there) (spans s b h j d.size w.0 (λ x. (i : ℕ) × (x ≡ candidate init runs i)) l whole (λ i q. (i, refl))));
     }
 
 -- A depth of a stretch's page.

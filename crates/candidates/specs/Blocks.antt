@@ -6,16 +6,28 @@ use Rattle.events.specs.declared.event.EventId.{EventId}
 use Rattle.events.specs.Cuts.{known_part}
 use Rattle.events.specs.Executions.{ThreadRun, GraphValue}
 use Rattle.events.specs.Extends.{Extends}
-use Rattle.listings.specs.Lists.{product_by}
+use Rattle.listings.specs.Lists.{IsIn, StandsAt, product_by}
 use Rattle.candidates.specs.declared.depths.Depth.{Depth}
 use Rattle.candidates.specs.declared.depths.Known.{Known}
 use Rattle.candidates.specs.declared.depths.Known.TheVariants.{Sources, Orders}
 use Rattle.candidates.specs.Executions.{reads, later_writes, upto}
-use Rattle.candidates.specs.Candidates.{Choices, count_sources, count_orders, count_co, graph_at}
+use Rattle.candidates.specs.Candidates.{Choices, candidate, count_sources, count_orders, count_co, graph_at}
 
 -- Each execution at a number from a to before b goes on from g.
 abbrev pub AllExtend : Choices → ℕ → ℕ → GraphValue → Type 0
 AllExtend s a b g = (m : ℕ) → a ≤ m → m < b → (x : GraphValue) → graph_at s m ≡ Some x → Extends g x
+
+-- Each execution at a number from a to before b is a candidate with these runs.
+abbrev pub AllOfRuns : Choices → ℕ → ℕ → List ThreadRun → Type 0
+AllOfRuns s a b runs = (m : ℕ) → a ≤ m → m < b → (x : GraphValue) → graph_at s m ≡ Some x → (i : ℕ) × (x ≡ candidate s.init runs i)
+
+-- in the order of each location of x stand the writes that stand in that of g
+abbrev pub HasWritesOf : GraphValue → GraphValue → Type 0
+HasWritesOf g x = (l : ℕ) (o : List EventId) → StandsAt g.co l o → (p : List EventId) × StandsAt x.co l p × ((w : EventId) → IsIn w o → IsIn w p)
+
+-- Each execution at a number from a to before b has the writes of g in its orders.
+abbrev pub AllHaveWrites : Choices → ℕ → ℕ → GraphValue → Type 0
+AllHaveWrites s a b g = (m : ℕ) → a ≤ m → m < b → (x : GraphValue) → graph_at s m ≡ Some x → HasWritesOf g x
 
 -- how many ways there are to place the first k of n writes among the others
 abbrev pub placings : ℕ → ℕ → ℕ

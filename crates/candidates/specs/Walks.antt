@@ -1,7 +1,7 @@
 -- A walk over the executions of a space, from number to number.
 use Rattle.std.specs.Prelude.{◌≡◌, ℕ, ◌+◌, ◌-◌, ◌%◌, ◌<◌, ◌≤◌, List, [], length, slice_index_or, Option, None, Some, IfSome}
 use Rattle.events.specs.Executions.{GraphValue}
-use Rattle.candidates.specs.Blocks.{AllExtend, Fits, IsAllRead, cut_of}
+use Rattle.candidates.specs.Blocks.{AllExtend, AllOfRuns, Fits, IsAllRead, cut_of}
 use Rattle.candidates.specs.Candidates.{Choices, candidate, graph_at, size_of}
 use Rattle.candidates.specs.Depths.{depths_of, place_of}
 use Rattle.candidates.specs.declared.reading.Hit.{Hit}
@@ -136,6 +136,7 @@ pub record IsSection (s : Choices) (b : Stretch) (n depth : ℕ) (r : Section) :
   pub later : n ≤ r.end
   pub most : r.end ≤ size_of s
   pub extend : AllExtend s (n - 1) r.end (cut_of r.known (candidate s.init b.page.runs.items r.place))
+  pub alike : AllOfRuns s (n - 1) r.end b.page.runs.items
 
 -- The execution that the walk shows stands at the number before the one where it goes on, and at no other.
 pub record IsJustFound (w : Walking) : Type 0 where

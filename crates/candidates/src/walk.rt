@@ -6,7 +6,7 @@ ghost use Rattle.candidates.specs.Executions.{block};
 ghost use Rattle.candidates.specs.Alike.{AllWithin, AreAlike};
 ghost use Rattle.events.specs.Cuts.{cut_down};
 ghost use Rattle.events.specs.Opened.{opened};
-ghost use Rattle.candidates.specs.Blocks.{AllExtend};
+ghost use Rattle.candidates.specs.Blocks.{AllExtend, AllHaveWrites};
 ghost use Rattle.candidates.specs.Candidates.{Choices, candidate, graph_at, size_of, no_execution};
 ghost use Rattle.candidates.specs.Depths.{cut_at, end_at, knows_places};
 ghost use Rattle.candidates.specs.Levels.{ArePlaced};
@@ -548,6 +548,8 @@ impl<'a> Walk<'a> {
     pub fn block(&self, depth: usize) -> Option<Block<'_>>
         // Each execution of the block goes on from what is known of the one that is shown.
         ensures extend { IfSome result (λ b. AllExtend self.now.space (self.now.next - 1) b.end (cut_down self.now.shown b.cut)) }
+        // In its orders stand the writes that stand in those of the one that is shown.
+        ensures writes { IfSome result (λ b. AllHaveWrites self.now.space (self.now.next - 1) b.end self.now.shown) }
         ensures within { IfSome result (λ b. (self.now.next ≤ b.end) × (b.end ≤ size_of self.now.space)) }
         // It ends where blocks of this depth do.
         ensures end { IfSome result (λ b. b.end ≡ end_at self.now.space (depths_around self.now) depth (self.now.next - 1)) }

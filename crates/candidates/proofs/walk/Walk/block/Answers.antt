@@ -1,10 +1,10 @@
 use Rattle.std.proofs.Common.{◌≡◌, ◌∙◌, ◌-◌, ◌≤◌, ℕ, List, length, ap, subst, sym, arith}
 use Rattle.events.specs.Cuts.{cut_down}
 use Rattle.events.specs.Executions.{GraphValue}
-use Rattle.candidates.specs.Blocks.{AllExtend}
+use Rattle.candidates.specs.Blocks.{AllExtend, AllHaveWrites}
 use Rattle.candidates.specs.Depths.{cut_at, end_at}
 use Rattle.candidates.specs.Walks.{IsJustFound, Walking, depths_around}
-use Rattle.candidates.proofs.Around.{block_cut, block_end, block_extends, few_around, just_found, parts_shown}
+use Rattle.candidates.proofs.Around.{block_cut, block_end, block_extends, block_writes, few_around, just_found, parts_shown}
 use Rattle.candidates.proofs.walk.Walk.block.Goals as goal
 
 pub returns-in_err-section-clause-cut : goal.returns-in_err-section-clause-cut
@@ -32,6 +32,15 @@ returns-clause-extend c =
     let P : Walking → Type 0 = λ v. AllExtend v.space (v.next - 1) r.end (cut_down v.shown c.cut_to-cut.result) in
     let Q : GraphValue → Type 0 = λ g. AllExtend s (w.next - 1) r.end g in
     subst P c.self.view_is (subst Q (sym cut) (block_extends s w.scene w.next c.args.depth r c.self.invariant.scene k c.if-section-scene.false))
+
+pub returns-clause-writes : goal.returns-clause-writes
+returns-clause-writes c =
+    let w = c.self.inside in
+    let s = w.space.now in
+    let r = c.in_ok-section.section in
+    let k = c.in_ok-section.ensures.section s c.self.invariant.scene.stretch in
+    let P : Walking → Type 0 = λ v. AllHaveWrites v.space (v.next - 1) r.end v.shown in
+    subst P c.self.view_is (block_writes s w.scene w.next c.args.depth r c.self.invariant.scene k)
 
 pub returns-clause-end : goal.returns-clause-end
 returns-clause-end c =
