@@ -37,7 +37,7 @@ same_writes init runs i k = λ l o s. (
     let r = at_place (count_orders runs) (order_at runs) (upto (length init)) (i % c) (k % c) l o s in
     let ws : List EventId = later_writes runs r.0 in
     let in_other : (w : EventId) → IsIn w o → IsIn w (order_at runs r.0 r.2) = λ w h. (
-        let P : List EventId → Type 0 = λ xs. IsIn w xs in
-        let m : IsIn w (order_at runs r.0 r.1) = subst P r.3 h in
-        elim m [ inl e ↦ inl e | inr n ↦ inr (has_arrange ws r.2 w (in_arrange ws r.1 w n)) ]) in
+    let P : List EventId → Type 0 = λ xs. IsIn w xs in
+    let m : IsIn w (order_at runs r.0 r.1) = subst P r.3 h in
+    elim m [ inl e ↦ inl e | inr n ↦ inr (has_arrange ws r.2 w (in_arrange ws r.1 w n)) ]) in
     (order_at runs r.0 r.2, r.4, in_other))

@@ -329,7 +329,12 @@ impl Workings {
 
     /// Whether it is known of the execution that was followed last, as far as it is known, that a model of these items allows none that goes on from it.
     #[inline(always)]
-    pub(crate) fn refutes(&mut self, items: &[PlannedItem<'_>], graph: &Graph, part: Part<'_>) -> bool
+    pub(crate) fn refutes(
+        &mut self,
+        items: &[PlannedItem<'_>],
+        graph: &Graph,
+        part: Part<'_>,
+    ) -> bool
         requires part { IsOfEvents graph.now part }
         requires works { WorksFor items.now self.old }
         requires absent { AreAbsent self.old.absent.items (part_of graph.now part) }
