@@ -20,6 +20,7 @@ pub mod Pairing
 pub mod PassedOver
 pub mod Picked
 pub mod Recently
+pub mod Refuting
 pub mod Rows
 pub mod Sent
 pub mod Sets

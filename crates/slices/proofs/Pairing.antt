@@ -136,66 +136,16 @@ not_among E r (y ∷ ys) a h =
       go false e n = e
       go true e n = let P : EventId → Type 0 = λ z. E z a ≡ true in absurd (false≢true (sym n ∙ subst P (same_is a y e) (r a)))
 
--- WHAT IS ASKED
-
-one_of : (p : Pair) (x : GraphValue) → IsPartOfOne x.co (p.first ∷ p.second ∷ []) → All (IsPartOfOne x.co) ((p.first ∷ p.second ∷ []) ∷ [])
-one_of p x h = All-cons (IsPartOfOne x.co) (p.first ∷ p.second ∷ []) [] h (All-nil (IsPartOfOne x.co))
-
--- what is known of a pair alone is a graph
-pub pair_graph : (h : GraphValue) (p : Pair) (init : List ℕ) (runs : List ThreadRun) (rf : List EventId) (co : List (List EventId)) → init ≡ h.init → runs ≡ h.runs → rf ≡ [] → co ≡ (p.first ∷ p.second ∷ []) ∷ [] → HasPair p h → PartsAreGraphs → IsGraph h →
-    IsGraph (record { init = init; runs = runs; rf = rf; co = co })
-pair_graph h p init runs rf co i r f c has law graph =
-    let O : List (List EventId) → Type 0 = λ z. All (IsPartOfOne h.co) z in
-    law (record { init = init; runs = runs; rf = rf; co = co }) h (record {
-      init = sym i;
-      runs = sym r;
-      rf = record { more = h.rf; is = ap (λ z. z ++ h.rf) (sym f) };
-      co = subst O (sym c) (one_of p h (p.location, has.0, has.1, has.2));
-    }) graph
-
--- what refutes the pair alone forbids it in all executions of the structure
-pub misplaced_by : (items : List Clause) (g a : GraphValue) (p : Pair) (un : List EventId) → a ≡ record { init = g.init; runs = g.runs; rf = []; co = (p.first ∷ p.second ∷ []) ∷ [] } → un ≡ [] →
-    ((h : GraphValue) → Extends (known_part a 0 0 un) h → ¬ Allowed items h) → ValuesDontMatter → IsMisplaced items (structure_of g) p
-misplaced_by items g a p un is none refuted values x s has allowed =
-    let only : GraphValue = record { init = g.init; runs = g.runs; rf = []; co = (p.first ∷ p.second ∷ []) ∷ [] } in
-    let P : GraphValue → Type 0 = λ z. (h : GraphValue) → Extends (known_part z 0 0 un) h → ¬ Allowed items h in
-    let Q : List EventId → Type 0 = λ z. (h : GraphValue) → Extends (known_part only 0 0 z) h → ¬ Allowed items h in
-    let y : GraphValue = record { init = g.init; runs = g.runs; rf = x.rf; co = x.co } in
-    let S : Structure → Sourced = λ t. record { structure = t; rf = x.rf } in
-    let e : Extends (known_part only 0 0 []) y = record { init = refl; runs = refl; rf = record { more = x.rf; is = refl }; co = one_of p x has } in
-    subst Q none (subst P is refuted) y e ((values items x y (ap S s) refl).0.0 allowed)
-
 -- WHAT IS PASSED OVER
 
 -- where lists of lists have parts of one, so do those that they are parts of
-part_of_one : (os : List (List EventId)) (orders : List (List EventId)) (p : List EventId) → All (IsPartOfOne orders) os → (k : ℕ) (o : List EventId) → StandsAt os k o → IsPart p o → (j : ℕ) × (q : List EventId) × StandsAt orders j q × IsPart p q
+pub part_of_one : (os : List (List EventId)) (orders : List (List EventId)) (p : List EventId) → All (IsPartOfOne orders) os → (k : ℕ) (o : List EventId) → StandsAt os k o → IsPart p o → (j : ℕ) × (q : List EventId) × StandsAt orders j q × IsPart p q
 part_of_one [] orders p all k o s h = absurd s
 part_of_one (z ∷ zs) orders p all zero o s h =
     let one = All-head (IsPartOfOne orders) z zs all in
     let P : List EventId → Type 0 = λ y. IsPart p y in
     (one.0, one.1, one.2, part_through p z one.1 (subst P s h) one.3)
 part_of_one (z ∷ zs) orders p all (suc k) o s h = part_of_one zs orders p (All-tail (IsPartOfOne orders) z zs all) k o s h
-
--- a block of executions that go on from one that has the pair among what is known of it
-pub block_forbidden : (items : List Clause) (w : Walking) (end : ℕ) (c : Cut) (p : Pair) → AllExtend w.space (w.next - 1) end (cut_down w.shown c) → IsPartOfOne (cut_down w.shown c).co (p.first ∷ p.second ∷ []) → IsMisplaced items (structure_of w.shown) p →
-    NoneAllowed items w.space (w.next - 1) end
-block_forbidden items w end c p extend part misplaced m l u x at =
-    let e = extend m l u x at in
-    let same : structure_of x ≡ structure_of w.shown = ap (λ i. structured i x.runs) e.init ∙ ap (λ r. structured w.shown.init r) e.runs in
-    misplaced x same (part_of_one (cut_down w.shown c).co x.co (p.first ∷ p.second ∷ []) e.co part.0 part.1 part.2 part.3)
-
-some_graph : (x y : GraphValue) → Some x ≡ Some y → x ≡ y
-some_graph x y e = cc
-
--- the one execution that is shown
-pub one_forbidden : (items : List Clause) (w : Walking) (n : ℕ) (p : Pair) → w.next ≡ n + 1 → graph_at w.space n ≡ Some w.shown → HasPair p w.shown → IsMisplaced items (structure_of w.shown) p → NoneAllowed items w.space (w.next - 1) (n + 1)
-one_forbidden items w n p next at has misplaced m l u x is =
-    let e : m ≡ n = omega (arith, next, l, u) in
-    let P : ℕ → Type 0 = λ i. graph_at w.space i ≡ Some x in
-    let f : w.shown ≡ x = some_graph w.shown x (sym at ∙ subst P e is) in
-    let Q : GraphValue → Type 0 = λ z. structure_of z ≡ structure_of w.shown in
-    let R : GraphValue → Type 0 = λ z. IsPartOfOne z.co (p.first ∷ p.second ∷ []) in
-    misplaced x (subst Q f refl) (subst R f (p.location, has.0, has.1, has.2))
 
 -- where a test of equality holds at a place, the event stands there
 pub event_exact : (d e : EventId) → Decides (name_equality.eq d e) (d ≡ e)
@@ -225,18 +175,3 @@ order_now orders xs i o same l e = order_read orders xs i o same (ltb-true i (le
 
 pub event_itself : (e : EventId) → name_equality.eq e e ≡ true
 event_itself e = (event_exact e e).1 refl
-
--- what was learned, where there is a lesson
-pub learned_in : {A : Type 0} (items : List Clause) (o : Option (Box Lesson A)) (l : Box Lesson A) → o ≡ Some l → IfSome o (λ b. IsLesson items b.value) → IsLesson items l.value
-learned_in {A} items o l is h = let P : Option (Box Lesson A) → Type 0 = λ z. IfSome z (λ b. IsLesson items b.value) in subst P is h
-
--- one more misplaced pair
-pub all_pushed : (items : List Clause) (s r : Structure) (ps qs : List Pair) (p : Pair) → s ≡ r → qs ≡ ps ++ p ∷ [] → All (IsMisplaced items s) ps → IsMisplaced items r p → All (IsMisplaced items s) qs
-all_pushed items s r ps qs p same is all one =
-    let P : List Pair → Type 0 = All (IsMisplaced items s) in
-    let Q : Structure → Type 0 = λ z. IsMisplaced items z p in
-    subst P (sym is) (All-push (IsMisplaced items s) ps p all (subst Q (sym same) one))
-
--- a place before one of the lists of orders
-pub in_bounds : (xs ys : List (List EventId)) (i : ℕ) → xs ≡ ys → i ≤ length xs → 0 < i → i - 1 < length ys
-in_bounds xs ys i same l some = let e : length xs ≡ length ys = ap (λ z. length z) same in omega (arith, e, l, some)

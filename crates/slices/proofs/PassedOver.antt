@@ -15,7 +15,7 @@ use Rattle.candidates.proofs.Walked.{found_from}
 use Rattle.slices.specs.Findings.{FindingValue}
 use Rattle.slices.specs.Parts.{AreThose, IsPart, at_end}
 use Rattle.slices.specs.Passing.{ArePassed, HasGoneOver, IsForbidden, Knows, NoneAllowed}
-use Rattle.slices.specs.Misplaced.{AreLearned}
+use Rattle.slices.specs.Lessons.{AreLearned}
 use Rattle.slices.specs.Verdicts.{Tells}
 use Rattle.slices.specs.declared.pruning.Pruner.{Pruner}
 use Rattle.slices.specs.declared.span.Span.{Span}
@@ -89,7 +89,7 @@ pub walk_nearer : (n : ℕ) (v w : Walking) → w.to ≡ v.to → n < w.next →
 walk_nearer n v w to later old below = omega (arith, to, later, old, below)
 
 -- what a pruner knows, by what it keeps
-pub knows_alike : (s u : Choices) (items clauses : List Clause) (p q : Pruner) → s ≡ u → items ≡ clauses → q.refuted ≡ p.refuted → (AreLearned clauses p.misplaced → AreLearned clauses q.misplaced) → Knows s items p → Knows u clauses q
+pub knows_alike : (s u : Choices) (items clauses : List Clause) (p q : Pruner) → s ≡ u → items ≡ clauses → q.refuted ≡ p.refuted → (AreLearned u clauses p.lessons → AreLearned u clauses q.lessons) → Knows s items p → Knows u clauses q
 knows_alike s u items clauses p q space model same learned known =
     let P : Choices → Type 0 = λ z. Knows z items p in
     let Q : List Clause → Type 0 = λ z. Knows u z p in

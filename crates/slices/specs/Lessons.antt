@@ -1,15 +1,15 @@
--- What was learned of features.
+-- What was learned of executions.
 use Rattle.std.specs.Prelude.{◌≡◌, ℕ, ◌<◌, ◌≤◌, List, All, Some, IfSome}
 use Rattle.listings.specs.Lists.{StandsAt}
 use Rattle.candidates.specs.Candidates.{Choices, graph_at}
 use Rattle.cat_tree.specs.Tree.{Clause}
 use Rattle.events.specs.Executions.{GraphValue}
 use Rattle.events.specs.Structures.{structure_of}
-use Rattle.slices.specs.Features.{IsFatal}
+use Rattle.slices.specs.Reasons.{IsFatal}
 use Rattle.slices.specs.declared.lesson.Lesson.{Lesson}
 use Rattle.slices.specs.declared.lessons.Lessons.{Lessons}
 
--- Each fatal feature is fatal in the executions of the lesson's structure.
+-- Each fatal reason is fatal in the executions of the lesson's structure.
 abbrev pub IsLesson : List Clause → Lesson → Type 0
 IsLesson items l = All (IsFatal items l.structure.structure) l.fatal.items
 

@@ -3,7 +3,6 @@ pub mod Codes
 pub mod Counts
 pub mod Courses
 pub mod Finals
-pub mod Features
 pub mod Findings
 pub mod Fronts
 pub mod Gathered
@@ -13,6 +12,7 @@ pub mod Numbers
 pub mod Parts
 pub mod Passing
 pub mod Questions
+pub mod Reasons
 pub mod Recents
 pub mod Same
 pub mod Slots

@@ -31,6 +31,6 @@ pub record HasGoneOver (items : List Clause) (v w : Walking) : Type 0 where
   pub none : NoneAllowed items v.space v.next w.next
 
 -- What the pruner keeps is right for these candidates: a model of these items allows none at the numbers that were refuted last, and what was learned
--- of features holds under it.
+-- holds under it.
 abbrev pub Knows : Choices → List Clause → Pruner → Type 0
 Knows s items p = NoneAllowed items s p.refuted.from p.refuted.to × AreLearned s items p.lessons

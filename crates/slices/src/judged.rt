@@ -1,7 +1,7 @@
 //! What is said of executions that a walk found: of one, or of some one behind another at once.
 
 ghost use Rattle.std.specs.Prelude.{◌≡◌, ◌-◌, Some, IfOk, IfSome};
-ghost use Rattle.candidates.specs.Candidates.{graph_at};
+ghost use Rattle.candidates.specs.Candidates.{Choices, graph_at};
 ghost use Rattle.events.specs.Structures.{structure_of};
 ghost use Rattle.slices.specs.Judgements.{IsSaid};
 ghost use Rattle.slices.specs.Lessons.{AreLearned};
@@ -33,11 +33,10 @@ fn judge_shown(
     requires shown { graph_at walk.now.space (walk.now.next - 1) ≡ Some walk.now.shown }
     requires relied { IfSome evaluator.old.relied (λ s. s ≡ structure_of walk.now.shown) }
     requires model { evaluator.old.items ≡ work.now.model.items }
-    requires learned { AreLearned walk.now.space evaluator.old.items pruner.old.lessons }
     ensures relied { IfSome evaluator.new.relied (λ s. s ≡ structure_of walk.now.shown) }
     ensures model { evaluator.new.items ≡ evaluator.old.items }
     ensures refuted { pruner.new.refuted ≡ pruner.old.refuted }
-    ensures learned { AreLearned walk.now.space evaluator.old.items pruner.new.lessons }
+    ensures learned { (s : Choices) → AreLearned s evaluator.old.items pruner.old.lessons → AreLearned s evaluator.old.items pruner.new.lessons }
     ensures said { IfOk result (IsSaid evaluator.old.items walk.now) }
 {
     let graph = walk.graph();
@@ -58,11 +57,10 @@ pub(crate) fn judge(
     requires shown { graph_at walk.now.space (walk.now.next - 1) ≡ Some walk.now.shown }
     requires relied { IfSome evaluator.old.relied (λ s. s ≡ structure_of walk.now.shown) }
     requires model { evaluator.old.items ≡ work.now.model.items }
-    requires learned { AreLearned walk.now.space evaluator.old.items pruner.old.lessons }
     ensures relied { IfSome evaluator.new.relied (λ s. s ≡ structure_of walk.now.shown) }
     ensures model { evaluator.new.items ≡ evaluator.old.items }
     ensures refuted { pruner.new.refuted ≡ pruner.old.refuted }
-    ensures learned { AreLearned walk.now.space evaluator.old.items pruner.new.lessons }
+    ensures learned { (s : Choices) → AreLearned s evaluator.old.items pruner.old.lessons → AreLearned s evaluator.old.items pruner.new.lessons }
     ensures said { IfOk result (IsSaid evaluator.old.items walk.now) }
 {
     match pruner.judge_block(alloc, evaluator, walk)? {

@@ -1,31 +1,30 @@
-//! What is known of features in the executions of one event structure.
+//! What is known of the executions of one event structure.
 
 ghost use Rattle.std.specs.Prelude.{◌≡◌, ◌+◌, Some, IfOk, IfSome, IsTrue};
 ghost use Rattle.candidates.specs.Candidates.{graph_at};
 ghost use Rattle.cat_tree.specs.Tree.{Clause};
 ghost use Rattle.events.specs.Structures.{structure_of};
-ghost use Rattle.slices.specs.Features.{HasAt, IsFatal};
 ghost use Rattle.slices.specs.Lessons.{IsLesson};
 ghost use Rattle.slices.specs.Passing.{IsForbidden};
+ghost use Rattle.slices.specs.Reasons.{HasAt, IsFatal};
 
-use crate::feature::Feature;
-use crate::suspects::{Exchange, Rivals, exchanges, pair, parted, reads_so};
+use crate::pair::Pair;
+use crate::reason::Reason;
+use crate::rivals::{Exchange, Rivals, exchanges};
 use candidates::Walk;
 use cat_eval::Evaluator;
 use events::{EventId, Graph, SourcedStructure};
 use std::alloc::{AllocError, Global};
 
-/// How many features are asked at most.
-const MOST_FEATURES: usize = 128;
+/// How many reasons are asked at most.
+const MOST_REASONS: usize = 128;
 
-/// The features that were asked: those that no allowed execution with these events has, and those of which that isn't known.
+/// The reasons that were asked, for executions of one structure: those that are known to be fatal, and the others.
 pub(crate) struct Lesson {
     pub(crate) structure: SourcedStructure,
-    pub(crate) fatal: Vec<Feature>,
-    others: Vec<Feature>,
+    pub(crate) fatal: Vec<Reason>,
+    others: Vec<Reason>,
     exchanges: Vec<Exchange>,
-    rivals: Vec<Rivals>,
-    friends: Vec<Rivals>,
 }
 
 // A function of its own: whoever holds one drops it by a call.
@@ -36,8 +35,6 @@ impl Drop for Lesson {
             fatal: _,
             others: _,
             exchanges: _,
-            rivals: _,
-            friends: _,
         } = self;
     }
 }
@@ -49,21 +46,17 @@ pub(crate) struct Forbidden {
     pub(crate) end: u64,
 }
 
-/// The widest block around the execution at this number, which the walk found last, in which each has the feature that it has. Where there is no depth
-/// of that, it is the execution alone.
-fn block_with(walk: &Walk<'_>, number: u64, feature: &Feature) -> Forbidden
-    requires found { walk.now.next ≡ number + 1 }
-    requires shown { graph_at walk.now.space number ≡ Some walk.now.shown }
-    requires has { HasAt feature.now walk.now.shown }
-    ensures { (items : List Clause) → IsFatal items (structure_of walk.now.shown) feature.now → IsForbidden items walk.now result.end }
+/// The widest block around the execution that the walk found last in which each has a reason that it has itself, if that is wider than another forbidden one.
+fn widen(walk: &Walk<'_>, reason: Reason, other: Forbidden) -> Forbidden
+    requires { HasAt reason walk.now.shown }
+    ensures { (items : List Clause) → IsFatal items (structure_of walk.now.shown) reason → IsForbidden items walk.now other.end → IsForbidden items walk.now result.end }
 {
-    let mut widest = Forbidden {
-        depth: walk.depths(),
-        end: number + 1,
-    };
-    for depth in (0..walk.depths()).rev() {
+    let mut widest = other;
+    // They tell that what is read from is an event.
+    let _ = walk.graph().runs();
+    for depth in (0..other.depth).rev() {
         match walk.block(depth) {
-            Some(block) if feature.is_known(block.cut) => {
+            Some(block) if reason.is_known(block.cut) => {
                 widest = Forbidden {
                     depth,
                     end: block.end,
@@ -77,6 +70,7 @@ fn block_with(walk: &Walk<'_>, number: u64, feature: &Feature) -> Forbidden
 
 impl Lesson {
     /// Nothing, of executions with the events of this one.
+    #[inline(never)]
     pub(crate) fn new(alloc: Global, graph: &Graph) -> Result<Lesson, AllocError>
         ensures lesson { (items : List Clause) → IfOk result (IsLesson items) }
         ensures structure { IfOk result (λ l. l.structure.structure ≡ structure_of graph.now) }
@@ -88,158 +82,106 @@ impl Lesson {
             fatal: Vec::new(alloc),
             others: Vec::new(alloc),
             exchanges,
-            rivals: Vec::new(alloc),
-            friends: Vec::new(alloc),
         })
     }
 
-    /// The widest block around the execution at this number, which the walk found last, in which each has a feature that no allowed one has.
+    /// The widest block around the execution at this number, which the walk found last, in which each has a fatal reason that it has itself.
     pub(crate) fn forbidden_around(&self, walk: &Walk<'_>, number: u64) -> Option<Forbidden>
         requires found { walk.now.next ≡ number + 1 }
         requires shown { graph_at walk.now.space number ≡ Some walk.now.shown }
         requires structure { self.now.structure.structure ≡ structure_of walk.now.shown }
         ensures { (items : List Clause) → IsLesson items self.now → IfSome result (λ f. IsForbidden items walk.now f.end) }
     {
-        let mut widest: Option<Forbidden> = self.rivals_around(walk);
-        for feature in &self.fatal {
-            if feature.is_in(walk.graph()) {
-                let block = block_with(walk, number, feature);
-                if widest.map_or(true, |other| block.depth < other.depth) {
-                    widest = Some(block);
-                }
+        let mut widest: Option<Forbidden> = None;
+        for reason in &self.fatal {
+            if reason.is_in(walk.graph()) {
+                let other = match widest {
+                    Some(other) => other,
+                    None => Forbidden {
+                        depth: walk.depths(),
+                        end: number + 1,
+                    },
+                };
+                widest = Some(widen(walk, *reason, other));
             }
         }
         widest
     }
 
-    fn rivals_of(&self, graph: &Graph, second: usize) -> Option<usize> {
-        let own = self.exchanges[second];
-        let write = graph.rf()[own.read];
-        for first in 0..second {
-            let other = self.exchanges[first];
-            if graph.rf()[other.read] == write {
-                let rivals = Rivals { first, second, write };
-                if self.rivals.iter().any(|known| *known == rivals) {
-                    return Some(own.read);
-                }
-            }
-        }
-        None
+    /// Whether a reason was asked, or no more are.
+    fn is_past(&self, reason: Reason) -> bool {
+        self.fatal.len() + self.others.len() >= MOST_REASONS
+            || self.fatal.contains(&reason)
+            || self.others.contains(&reason)
     }
 
-    fn rivals_around(&self, walk: &Walk<'_>) -> Option<Forbidden> {
-        for second in 0..self.exchanges.len() {
-            if let Some(read) = self.rivals_of(walk.graph(), second) {
-                for depth in 0..walk.depths() {
-                    match walk.block(depth) {
-                        Some(block) => {
-                            if block.cut.reads > read {
-                                return Some(Forbidden { depth, end: block.end });
-                            }
-                        }
-                        None => return None,
-                    }
-                }
-                return None;
-            }
-        }
-        None
-    }
-
-    fn new_rivals_of(&self, graph: &Graph, second: usize) -> Option<Rivals> {
-        let own = self.exchanges[second];
-        let write = graph.rf()[own.read];
-        for first in 0..second {
-            let other = self.exchanges[first];
-            if graph.rf()[other.read] == write {
-                let rivals = Rivals { first, second, write };
-                if !self.rivals.iter().any(|known| *known == rivals) && !self.friends.iter().any(|known| *known == rivals) {
-                    return Some(rivals);
-                }
-            }
-        }
-        None
-    }
-
-    fn new_rivals(&self, graph: &Graph) -> Option<Rivals> {
-        for second in 0..self.exchanges.len() {
-            if let Some(rivals) = self.new_rivals_of(graph, second) {
+    /// An exchange and one of these others that read from one write, if that wasn't asked yet.
+    fn unasked_rivals_of(
+        &self,
+        graph: &Graph,
+        second: Exchange,
+        others: &[Exchange],
+    ) -> Option<Reason> {
+        let source = second.source(graph)?;
+        for first in others {
+            let rivals = Reason::Rivals(Rivals {
+                first: *first,
+                second,
+                source,
+            });
+            if first.reads_from(source, graph) && !self.is_past(rivals) {
                 return Some(rivals);
             }
         }
         None
     }
 
-    fn are_fatal(&self, alloc: Global, evaluator: &mut Evaluator<'_>, graph: &Graph, rivals: Rivals) -> Result<bool, AllocError> {
-        let first = self.exchanges[rivals.first];
-        let second = self.exchanges[rivals.second];
-        if !reads_so(alloc, first, rivals.write, Some(second.write))?.is_fatal(alloc, evaluator, graph)? {
-            return Ok(false);
-        }
-        if !reads_so(alloc, second, rivals.write, Some(first.write))?.is_fatal(alloc, evaluator, graph)? {
-            return Ok(false);
-        }
-        if rivals.write.is_initial() {
-            return Ok(true);
-        }
-        if !reads_so(alloc, first, rivals.write, None)?.is_fatal(alloc, evaluator, graph)? {
-            return Ok(false);
-        }
-        reads_so(alloc, second, rivals.write, None)?.is_fatal(alloc, evaluator, graph)
-    }
-
-    /// Whether a feature was asked, or no more are.
-    fn is_past(&self, feature: &Feature) -> bool {
-        self.fatal.len() + self.others.len() >= MOST_FEATURES
-            || self.fatal.iter().any(|known| known.is_like(feature))
-            || self.others.iter().any(|known| known.is_like(feature))
-    }
-
-    /// A feature of its exchanges that wasn't asked yet.
-    fn unasked_exchange(&self, alloc: Global, graph: &Graph) -> Result<Option<Feature>, AllocError> {
-        for exchange in &self.exchanges {
-            if let Some(feature) = parted(alloc, graph, *exchange)? {
-                if !self.is_past(&feature) {
-                    return Ok(Some(feature));
-                }
+    /// Two exchanges that read from one write, if that wasn't asked yet.
+    fn unasked_rivals(&self, graph: &Graph) -> Option<Reason> {
+        for (place, second) in self.exchanges.iter().enumerate() {
+            let found = self.unasked_rivals_of(graph, *second, &self.exchanges[..place]);
+            if found.is_some() {
+                return found;
             }
         }
-        Ok(None)
+        None
     }
 
-    /// A pair of writes one behind another in the order of a location, behind the first, that wasn't asked yet.
-    fn unasked_in(
-        &self,
-        alloc: Global,
-        location: usize,
-        order: &[EventId],
-    ) -> Result<Option<Feature>, AllocError> {
+    /// Two writes one behind another in the order of a location, behind the first, if that wasn't asked yet.
+    fn unasked_in(&self, location: usize, order: &[EventId]) -> Option<Reason> {
         for place in 2..order.len() {
-            let feature = pair(alloc, location, order[place - 1], order[place])?;
-            if !self.is_past(&feature) {
-                return Ok(Some(feature));
+            let pair = Reason::Pair(Pair {
+                location,
+                first: order[place - 1],
+                second: order[place],
+            });
+            if !self.is_past(pair) {
+                return Some(pair);
             }
         }
-        Ok(None)
+        None
     }
 
-    /// Such a pair of an execution: of the last locations first, whose orders are the slowest to change.
-    fn unasked_pair(&self, alloc: Global, graph: &Graph) -> Result<Option<Feature>, AllocError> {
+    /// Two such writes of an execution: of the last locations first, whose orders are the slowest to change.
+    fn unasked_pair(&self, graph: &Graph) -> Option<Reason> {
         for location in (0..graph.co().len()).rev() {
-            if let Some(feature) = self.unasked_in(alloc, location, graph.co()[location].writes())? {
-                return Ok(Some(feature));
+            let found = self.unasked_in(location, graph.co()[location].writes());
+            if found.is_some() {
+                return found;
             }
         }
-        Ok(None)
+        None
     }
 
-    /// A feature of an execution that wasn't asked yet.
-    fn unasked(&self, alloc: Global, graph: &Graph) -> Result<Option<Feature>, AllocError> {
-        let _ = self.unasked_exchange(alloc, graph);
-        self.unasked_pair(alloc, graph)
+    /// A reason of an execution that wasn't asked yet.
+    fn unasked(&self, graph: &Graph) -> Option<Reason> {
+        match self.unasked_rivals(graph) {
+            Some(rivals) => Some(rivals),
+            None => self.unasked_pair(graph),
+        }
     }
 
-    /// Learns of a feature of a forbidden execution with its events that wasn't asked yet, if there is one, and tells whether no allowed one has it.
+    /// Asks a reason that a forbidden execution with its events may be forbidden for, if one wasn't asked yet, and tells whether it is fatal.
     pub(crate) fn learn(
         &mut self,
         alloc: Global,
@@ -254,22 +196,14 @@ impl Lesson {
         ensures structure { self.new.structure ≡ self.old.structure }
         ensures lesson { IsLesson evaluator.old.items self.new }
     {
-        if let Some(rivals) = self.new_rivals(graph) {
-            if self.are_fatal(alloc, evaluator, graph, rivals)? {
-                self.rivals.push(rivals)?;
-                return Ok(true);
-            }
-            self.friends.push(rivals)?;
-            return Ok(false);
-        }
-        let Some(feature) = self.unasked(alloc, graph)? else {
+        let Some(reason) = self.unasked(graph) else {
             return Ok(false);
         };
-        if feature.is_in(graph) && feature.is_fatal(alloc, evaluator, graph)? {
-            self.fatal.push(feature)?;
+        if reason.is_in(graph) && reason.is_fatal(alloc, evaluator, graph)? {
+            self.fatal.push(reason)?;
             return Ok(true);
         }
-        self.others.push(feature)?;
+        self.others.push(reason)?;
         Ok(false)
     }
 }

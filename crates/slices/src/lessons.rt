@@ -1,11 +1,13 @@
-//! What was learned of features, for the executions of several event structures.
+//! What was learned of the executions of several event structures.
 
-ghost use Rattle.std.specs.Prelude.{◌≡◌, ◌+◌, Some, IfOk, IfSome, IsTrue, OnOk};
+ghost use Rattle.std.specs.Prelude.{◌≡◌, ◌+◌, ◌<◌, All, List, Some, length, IfOk, IfSome};
 ghost use Rattle.candidates.specs.Candidates.{Choices, graph_at};
 ghost use Rattle.cat_tree.specs.Tree.{Clause};
 ghost use Rattle.events.specs.Structures.{structure_of};
-ghost use Rattle.slices.specs.Lessons.{AreLearned, IsLesson};
+ghost use Rattle.listings.specs.Lists.{StandsAt};
+ghost use Rattle.slices.specs.Lessons.{AreAlike, AreLearned, IsLesson};
 ghost use Rattle.slices.specs.Passing.{IsForbidden};
+ghost use Rattle.slices.specs.declared.lesson.Lesson.{Lesson as LessonValue};
 
 use crate::lesson::{Forbidden, Lesson};
 use crate::span::Span;
@@ -45,12 +47,23 @@ impl Lessons {
     }
 
     /// The place of the lesson of executions with the events of this one.
-    fn place_of(&self, graph: &Graph) -> Option<usize> {
-        self.list.iter().position(|lesson| lesson.structure.is_of(graph))
+    fn place_of(&self, graph: &Graph) -> Option<usize>
+        ensures { IfSome result (λ k. (l : LessonValue) → StandsAt self.now.list.items k l → l.structure.structure ≡ structure_of graph.now) }
+    {
+        self.list
+            .iter()
+            .position(|lesson| lesson.structure.is_of(graph))
     }
 
     /// Finds the lesson of the executions from this number on, which the walk found last, as far as it is known that they have the same events.
-    fn find(&mut self, walk: &Walk<'_>, number: u64) {
+    fn find(&mut self, walk: &Walk<'_>, number: u64)
+        requires found { walk.now.next ≡ number + 1 }
+        requires shown { graph_at walk.now.space number ≡ Some walk.now.shown }
+        requires alike { AreAlike walk.now.space self.old }
+        ensures list { self.new.list ≡ self.old.list }
+        ensures alike { AreAlike walk.now.space self.new }
+        ensures place { IfSome self.new.place (λ k. (l : LessonValue) → StandsAt self.new.list.items k l → l.structure.structure ≡ structure_of walk.now.shown) }
+    {
         if self.alike.from <= number && number < self.alike.to {
             return;
         }
@@ -66,6 +79,12 @@ impl Lessons {
 
     /// The widest block around the execution at this number, which the walk found last, of which it is known that none is allowed.
     pub(crate) fn forbidden_around(&mut self, walk: &Walk<'_>, number: u64) -> Option<Forbidden>
+        requires found { walk.now.next ≡ number + 1 }
+        requires shown { graph_at walk.now.space number ≡ Some walk.now.shown }
+        requires alike { AreAlike walk.now.space self.old }
+        ensures list { self.new.list ≡ self.old.list }
+        ensures alike { AreAlike walk.now.space self.new }
+        ensures forbidden { (items : List Clause) → All (IsLesson items) self.old.list.items → IfSome result (λ f. IsForbidden items walk.now f.end) }
     {
         if self.list.is_empty() {
             return None;
@@ -81,7 +100,11 @@ impl Lessons {
     }
 
     /// The place of the lesson of executions with the events of this one, which is begun if there is room.
-    fn place_for(&mut self, alloc: Global, graph: &Graph) -> Result<Option<usize>, AllocError> {
+    fn place_for(&mut self, alloc: Global, graph: &Graph) -> Result<Option<usize>, AllocError>
+        ensures lessons { (items : List Clause) → All (IsLesson items) self.old.list.items → All (IsLesson items) self.new.list.items }
+        ensures alike { (s : Choices) → AreAlike s self.old → AreAlike s self.new }
+        ensures place { IfOk result (λ o. IfSome o (λ k. (k < length self.new.list.items) × ((l : LessonValue) → StandsAt self.new.list.items k l → l.structure.structure ≡ structure_of graph.now))) }
+    {
         if let Some(place) = self.place_of(graph) {
             return Ok(Some(place));
         }
@@ -102,6 +125,10 @@ impl Lessons {
         evaluator: &mut Evaluator<'_>,
         graph: &Graph,
     ) -> Result<(), AllocError>
+        requires relied { IfSome evaluator.old.relied (λ s. s ≡ structure_of graph.now) }
+        ensures model { evaluator.new.items ≡ evaluator.old.items }
+        ensures relied { IfSome evaluator.new.relied (λ s. s ≡ structure_of graph.now) }
+        ensures learned { (s : Choices) → AreLearned s evaluator.old.items self.old → AreLearned s evaluator.old.items self.new }
     {
         let is_new = match self.place_for(alloc, graph)? {
             Some(place) => self.list[place].learn(alloc, evaluator, graph)?,
@@ -122,6 +149,10 @@ impl Lessons {
         evaluator: &mut Evaluator<'_>,
         graph: &Graph,
     ) -> Result<(), AllocError>
+        requires relied { IfSome evaluator.old.relied (λ s. s ≡ structure_of graph.now) }
+        ensures model { evaluator.new.items ≡ evaluator.old.items }
+        ensures relied { IfSome evaluator.new.relied (λ s. s ≡ structure_of graph.now) }
+        ensures learned { (s : Choices) → AreLearned s evaluator.old.items self.old → AreLearned s evaluator.old.items self.new }
     {
         if self.patience == 0 {
             return Ok(());

@@ -9,7 +9,7 @@ use Rattle.events.specs.Executions.{GraphValue}
 use Rattle.events.specs.Structures.{structure_of}
 use Rattle.slices.specs.Findings.{FindingValue}
 use Rattle.slices.specs.Judgements.{IsJudged}
-use Rattle.slices.specs.Misplaced.{AreLearned}
+use Rattle.slices.specs.Lessons.{AreLearned}
 use Rattle.slices.specs.Parts.{IsAdmitted, IsPart}
 use Rattle.slices.specs.Passing.{ArePassed}
 use Rattle.slices.specs.Slots.{slot_of}
@@ -39,7 +39,7 @@ loop-gathering-init c =
       slots = subst P (sym same) (let told = subst T c.in_ok-share.ensures (c.in_ok-finding.ensures w.model.items) in let S : WorkValue → Type 0 = λ z. (ps : List Place) → AreObserved z.test.condition z.test.listed ps → c.slots-slots.result.now ≡ map (slot_of z.test) ps in subst S c.work-inner.ensures c.slots-slots.ensures c.in_ok-finding.finding.places told.places);
       model = c.requires.evaluator;
       steady = steady_nowhere _ _ _ _ (omega arith);
-      known = knows_alike (choices_of w.test) (choices_of w.test) w.model.items w.model.items c.args.pruner.now c.begin.new.self refl refl c.begin.ensures.refuted (subst (AreLearned w.model.items) (sym c.begin.ensures.misplaced)) c.requires.known;
+      known = knows_alike (choices_of w.test) (choices_of w.test) w.model.items w.model.items c.args.pruner.now c.begin.new.self refl refl c.begin.ensures.refuted (subst (AreLearned (choices_of w.test) w.model.items) (sym c.begin.ensures.lessons)) c.requires.known;
     }
 
 pub new-gathering-requires : goal.new-gathering-requires
@@ -128,7 +128,7 @@ loop-gathering-preserved-in-Some-open c =
           (let G : Choices → Type 0 = λ s. graph_at s n ≡ Some c.next.new.self.shown in subst G (sym hit.step.space) hit.at)
           (let R : Walking → Type 0 = λ w. IfSome c.judge.new.evaluator.relied (λ r. r ≡ structure_of w.shown) in subst R same c.judge.ensures.relied)));
       model = c.judge.ensures.model ∙ model;
-      known = knows_alike _ _ _ _ c.passes.new.self c.judge.new.pruner (hit.step.space ∙ inv.counted.space) (c.rely-steady.ensures.items ∙ inv.model) c.judge.ensures.refuted (λ _. (let L : List Clause → Type 0 = λ z. AreLearned z c.judge.new.pruner.misplaced in subst L model c.judge.ensures.learned)) c.passes.ensures.known;
+      known = knows_alike _ _ _ _ c.passes.new.self c.judge.new.pruner (hit.step.space ∙ inv.counted.space) (c.rely-steady.ensures.items ∙ inv.model) c.judge.ensures.refuted (let L : List Clause → Type 0 = λ z. AreLearned (choices_of w.test) z c.passes.new.self.lessons → AreLearned (choices_of w.test) z c.judge.new.pruner.lessons in subst L model (c.judge.ensures.learned (choices_of w.test))) c.passes.ensures.known;
     }
 
 pub loop-gathering-preserved-then-branch : goal.loop-gathering-preserved-then-branch
@@ -173,7 +173,7 @@ loop-gathering-preserved c =
           (let G : Choices → Type 0 = λ s. graph_at s n ≡ Some c.next.new.self.shown in subst G (sym hit.step.space) hit.at)
           (let R : Walking → Type 0 = λ w. IfSome c.judge.new.evaluator.relied (λ r. r ≡ structure_of w.shown) in subst R same c.judge.ensures.relied)));
       model = c.judge.ensures.model ∙ model;
-      known = knows_alike _ _ _ _ c.passes.new.self c.judge.new.pruner (hit.step.space ∙ inv.counted.space) (c.rely-steady.ensures.items ∙ inv.model) c.judge.ensures.refuted (λ _. (let L : List Clause → Type 0 = λ z. AreLearned z c.judge.new.pruner.misplaced in subst L model c.judge.ensures.learned)) c.passes.ensures.known;
+      known = knows_alike _ _ _ _ c.passes.new.self c.judge.new.pruner (hit.step.space ∙ inv.counted.space) (c.rely-steady.ensures.items ∙ inv.model) c.judge.ensures.refuted (let L : List Clause → Type 0 = λ z. AreLearned (choices_of w.test) z c.passes.new.self.lessons → AreLearned (choices_of w.test) z c.judge.new.pruner.lessons in subst L model (c.judge.ensures.learned (choices_of w.test))) c.passes.ensures.known;
     }
 
 pub weigh-requires-clause-whole : goal.weigh-requires-clause-whole
@@ -205,12 +205,10 @@ judge-requires c =
     let H : Walking → Type 0 = λ w. IsHit c.loop-gathering.walk w n in
     let here = subst H (sym same) hit in
     let R : Walking → Type 0 = λ w. IfSome c.passes.new.evaluator.relied (λ r. r ≡ structure_of w.shown) in
-    let L : List Clause → Type 0 = λ z. AreLearned z c.passes.new.self.misplaced in
     record {
       shown = shown_at c.loop-gathering.walk c.passes.new.walk n here;
       relied = subst R (sym same) c.passes.ensures.relied;
       model = c.passes.ensures.model ∙ (c.rely-steady.ensures.items ∙ c.loop-gathering.invariant.model) ∙ sym (ap (λ (z : WorkValue). z.model.items) c.work-inner.ensures);
-      learned = subst L (sym c.passes.ensures.model) c.passes.ensures.known.1;
     }
 
 pub passes-requires : goal.passes-requires

@@ -1,7 +1,7 @@
 use Rattle.std.proofs.Common.{sym, subst}
-use Rattle.slices.specs.Misplaced.{StandsSo}
+use Rattle.slices.specs.Reasons.{StandsSo}
 use Rattle.slices.proofs.Pairing.{order_now}
-use Rattle.slices.proofs.misplaced.Pair.is_in.Goals as goal
+use Rattle.slices.proofs.pair.Pair.is_in.Goals as goal
 
 pub returns-in-Some : goal.returns-in-Some
 returns-in-Some c t = (

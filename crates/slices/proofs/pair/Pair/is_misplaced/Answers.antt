@@ -1,7 +1,7 @@
 use Rattle.std.proofs.Common.{[], refl}
 use Rattle.std.proofs.lemmas.Result.{IfOk-weaker}
 use Rattle.slices.proofs.Pairing.{misplaced_by}
-use Rattle.slices.proofs.misplaced.Pair.is_misplaced.Goals as goal
+use Rattle.slices.proofs.pair.Pair.is_misplaced.Goals as goal
 
 pub returns-clause-misplaced : goal.returns-clause-misplaced
 returns-clause-misplaced c =

@@ -2,7 +2,7 @@ use Rattle.std.proofs.Common.{◌∙◌, ◌∷◌, [], sym, arith}
 use Rattle.std.proofs.lemmas.Bool.{ltb-true, not-true}
 use Rattle.events.specs.contracts.event.EventIdPartialEq.TheImpl.{ghosts as name_equality}
 use Rattle.slices.proofs.Pairing.{event_itself, known_behind, known_here, not_among}
-use Rattle.slices.proofs.misplaced.Pair.is_placed.Goals as goal
+use Rattle.slices.proofs.pair.Pair.is_placed.Goals as goal
 
 pub returns-then-not-contains : goal.returns-then-not-contains
 returns-then-not-contains c t x has =

@@ -1,8 +1,8 @@
 use Rattle.std.proofs.Common.{◌∙◌, sym, arith}
 use Rattle.events.specs.declared.event.EventId.TheVariants.{Initial}
 use Rattle.slices.proofs.Pairing.{event_found, two_part}
-use Rattle.slices.proofs.misplaced.Pair.stands_in.Goals.{then-eq-2, else-eq-2}
-use Rattle.slices.proofs.misplaced.Pair.stands_in.Goals as goal
+use Rattle.slices.proofs.pair.Pair.stands_in.Goals.{then-eq-2, else-eq-2}
+use Rattle.slices.proofs.pair.Pair.stands_in.Goals as goal
 
 pub returns-then-eq : goal.returns-then-eq
 returns-then-eq c t =

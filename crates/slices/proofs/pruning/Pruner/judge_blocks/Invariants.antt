@@ -9,5 +9,5 @@ invariant-loop-depth l = record {
   relied : IfSome l.evaluator.relied (λ s. s ≡ structure_of l.fn.walk.shown);
   walk : l.walk ≡ l.fn.walk;
   refuted : l.self.refuted ≡ l.fn.self.refuted;
-  misplaced : l.self.misplaced ≡ l.fn.self.misplaced;
+  lessons : l.self.lessons ≡ l.fn.self.lessons;
 }
