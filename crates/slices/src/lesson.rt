@@ -1,6 +1,6 @@
 //! What is known of the executions of one event structure.
 
-ghost use Rattle.std.specs.Prelude.{◌≡◌, ◌+◌, Some, IfOk, IfSome, IsTrue};
+ghost use Rattle.std.specs.Prelude.{◌≡◌, ◌+◌, List, Some, IfOk, IfSome, IsTrue};
 ghost use Rattle.candidates.specs.Candidates.{graph_at};
 ghost use Rattle.cat_tree.specs.Tree.{Clause};
 ghost use Rattle.events.specs.Structures.{structure_of};

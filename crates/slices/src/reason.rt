@@ -32,7 +32,7 @@ impl Reason {
 
     /// Whether it is told by what is known of executions.
     pub(crate) fn is_known(self, cut: Cut<'_>) -> bool
-        ensures { IsTrue result → IsKnown self cut }
+        ensures { IsTrue result → IsKnown self cut.entry }
     {
         match self {
             Reason::Pair(pair) => pair.is_placed(cut),
