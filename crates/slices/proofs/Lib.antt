@@ -10,6 +10,7 @@ pub mod Digits
 pub mod Following
 pub mod Fronts
 pub mod Judging
+pub mod Learning
 pub mod Mapped
 pub mod Members
 pub mod Merging

@@ -1,29 +1,15 @@
 -- Pairs of writes that stand so in orders, and in what is known of these.
 use Rattle.std.proofs.Common.{rules, ◌≡◌, ◌==◌, drop, length, get_or, ℕ, zero, suc, ◌+◌, ◌<◌, ◌≤◌, List, [], ◌∷◌, ◌++◌, filter, not, nat_lt, Bool, true, false, if◌then◌else◌, refl, sym, ◌∙◌, ap, subst, inl, inr, arith}
-use Rattle.std.specs.Prelude.{◌-◌, Box, Option, Some, IfSome}
 use Rattle.events.specs.contracts.event.EventIdPartialEq.TheImpl.{ghosts as name_equality}
 use Rattle.std.specs.List.{All, list_any}
 use Rattle.std.specs.Bool.{Decides}
 use Rattle.std.proofs.lemmas.Bool.{and_parts, or_parts, or_from, eq-eqb, eqb-true, ltb-true, false≢true}
-use Rattle.std.proofs.lemmas.List.Elements.{All-nil, All-cons, All-head, All-push, All-tail}
-use Rattle.cat_eval.specs.Judging.{Allowed}
-use Rattle.cat_tree.specs.Tree.{Clause}
-use Rattle.candidates.specs.Blocks.{AllExtend}
-use Rattle.candidates.specs.Candidates.{graph_at}
-use Rattle.candidates.specs.Walks.{Walking}
+use Rattle.std.proofs.lemmas.List.Elements.{All-head, All-tail}
 use Rattle.listings.specs.Lists.{StandsAt}
 use Rattle.events.specs.declared.event.EventId.{EventId}
 use Rattle.events.specs.declared.event.EventId.TheVariants.{Initial, Own}
-use Rattle.events.specs.declared.cut.Cut.{Cut}
-use Rattle.events.specs.Cuts.{same_event, is_among, placed, first_before, known_of, known_from, known_part, cut_down}
-use Rattle.events.specs.Executions.{GraphValue, ThreadRun, IsGraph}
-use Rattle.events.specs.Extends.{IsPart, IsPartOfOne, Extends, PartsAreGraphs}
-use Rattle.events.specs.Structures.{Structure, Sourced, structured, structure_of}
-use Rattle.slices.specs.declared.misplaced.Pair.{Pair}
-use Rattle.slices.specs.declared.misplaced.Lesson.{Lesson}
-use Rattle.slices.specs.Misplaced.{HasPair, IsLesson, IsMisplaced}
-use Rattle.slices.specs.Passing.{NoneAllowed}
-use Rattle.cat_eval.specs.Laws.{ValuesDontMatter}
+use Rattle.events.specs.Cuts.{same_event, is_among, placed, first_before, known_of, known_from}
+use Rattle.events.specs.Extends.{IsPart, IsPartOfOne}
 
 -- one event that stands in a list is a part of it
 one_part : (ys : List EventId) (i : ℕ) (b : EventId) → StandsAt ys i b → IsPart (b ∷ []) ys
@@ -160,6 +146,13 @@ pub event_there : (order : List EventId) (i : ℕ) (d : EventId) → i < length 
 event_there [] i d l = absurd (omega (arith, l))
 event_there (y ∷ ys) zero d l = refl
 event_there (y ∷ ys) (suc i) d l = event_there ys i d (omega (arith, l))
+
+-- what is read at a place of events stands there
+pub event_now : (events xs : List EventId) (i : ℕ) (w : EventId) → xs ≡ events → nat_lt i (length xs) ≡ true → w ≡ get_or xs i w → StandsAt events i w
+event_now events xs i w same l e =
+    let P : List EventId → Type 0 = λ z. StandsAt z i w in
+    let Q : EventId → Type 0 = λ v. StandsAt xs i v in
+    subst P same (subst Q (sym e) (event_there xs i w (ltb-true i (length xs) l)))
 
 order_there : (orders : List (List EventId)) (i : ℕ) (d o : List EventId) → i < length orders → o ≡ get_or orders i d → StandsAt orders i o
 order_there [] i d o l e = absurd (omega (arith, l))

@@ -1,8 +1,8 @@
 -- What refutes an excerpt, and what is forbidden for a reason.
-use Rattle.std.proofs.Common.{◌≡◌, ◌≢◌, ◌⊎◌, ℕ, zero, suc, ◌+◌, ◌-◌, ◌<◌, ◌≤◌, List, [], ◌∷◌, ◌++◌, length, take, Bool, true, refl, sym, ◌∙◌, ap, subst, inl, inr, arith}
+use Rattle.std.proofs.Common.{◌≡◌, ◌≢◌, ◌⊎◌, ℕ, zero, suc, ◌+◌, ◌-◌, ◌<◌, ◌≤◌, List, [], ◌∷◌, ◌++◌, get_or, length, nat_lt, take, Bool, true, refl, sym, ◌∙◌, ap, subst, inl, inr, arith}
 use Rattle.std.specs.Prelude.{Option, Some}
 use Rattle.std.specs.List.{All, list_any}
-use Rattle.std.proofs.lemmas.Bool.{cases_lt, or_cases}
+use Rattle.std.proofs.lemmas.Bool.{cases_lt, ltb-true, or_cases}
 use Rattle.std.proofs.lemmas.List.Elements.{All-nil, All-cons, All-head, All-push, All-tail}
 use Rattle.listings.specs.Lists.{IsIn, StandsAt}
 use Rattle.cat_tree.specs.Tree.{Clause}
@@ -25,7 +25,7 @@ use Rattle.slices.specs.declared.rivals.Rivals.{Rivals}
 use Rattle.slices.specs.declared.reason.Reason.{Reason}
 use Rattle.slices.specs.declared.reason.Reason.TheVariants as reasons
 use Rattle.slices.specs.Passing.{IsForbidden, NoneAllowed}
-use Rattle.slices.specs.Reasons.{AreApart, AreRivals, HasAt, HasOrder, HasPair, HasSources, HaveOneSource, IsFatal, IsKnown, IsMisplaced, IsNoReading, IsRefuted}
+use Rattle.slices.specs.Reasons.{AreApart, AreRivals, ComesLate, HasAt, HasOrder, HasPair, HasSources, HaveOneSource, IsFatal, IsKnown, IsMisplaced, IsRefuted}
 use Rattle.slices.proofs.Pairing.{event_exact, part_of_one, two_part}
 
 -- EVENTS OF LISTS
@@ -33,6 +33,44 @@ use Rattle.slices.proofs.Pairing.{event_exact, part_of_one, two_part}
 all_in : {X : Type 0} (P : X → Type 0) (xs : List X) (x : X) → All P xs → IsIn x xs → P x
 all_in P [] x h i = absurd i
 all_in P (y ∷ ys) x h i = elim i [ inl e ↦ subst P (sym e) (All-head P y ys h) | inr j ↦ all_in P ys x (All-tail P y ys h) j ]
+
+pub stands_is : {X : Type 0} (xs : List X) (i : ℕ) (x d : X) → StandsAt xs i x → get_or xs i d ≡ x
+stands_is [] i x d s = absurd s
+stands_is (y ∷ ys) zero x d s = sym s
+stands_is (y ∷ ys) (suc i) x d s = stands_is ys i x d s
+
+pub long_pushed : {X : Type 0} (xs : List X) (y : X) → length (xs ++ y ∷ []) ≡ suc (length xs)
+long_pushed [] y = refl
+long_pushed (x ∷ xs) y = ap suc (long_pushed xs y)
+
+stands_below : {X : Type 0} (xs : List X) (i : ℕ) (x : X) → StandsAt xs i x → i < length xs
+stands_below [] i x s = absurd s
+stands_below (y ∷ ys) zero x s = omega arith
+stands_below (y ∷ ys) (suc i) x s = let l : i < length ys = stands_below ys i x s in omega (arith, l)
+
+stands_pushed : {X : Type 0} (xs : List X) (y : X) (k : ℕ) (x : X) → StandsAt (xs ++ y ∷ []) k x → StandsAt xs k x ⊎ ((k ≡ length xs) × (x ≡ y))
+stands_pushed [] y zero x s = inr (refl, s)
+stands_pushed [] y (suc k) x s = absurd s
+stands_pushed (z ∷ zs) y zero x s = inl s
+stands_pushed (z ∷ zs) y (suc k) x s = elim (stands_pushed zs y k x s) [ inl t ↦ inl t | inr t ↦ inr (ap suc t.0, t.1) ]
+
+-- what stands behind the others is the last one
+pub last_pushed : {X : Type 0} (xs ys : List X) (y : X) (k : ℕ) (x : X) → ys ≡ xs ++ y ∷ [] → k ≡ length xs → StandsAt ys k x → x ≡ y
+last_pushed {X} xs ys y k x is long s =
+    let P : List X → Type 0 = λ z. StandsAt z k x in
+    elim (stands_pushed xs y k x (subst P is s)) [
+      | inl t ↦ absurd (let l : k < length xs = stands_below xs k x t in omega (arith, l, long))
+      | inr t ↦ t.1
+    ]
+
+-- what is read at a place stands there
+pub item_at : {X : Type 0} (xs : List X) (i : ℕ) (x : X) → i < length xs → x ≡ get_or xs i x → StandsAt xs i x
+item_at [] i x l e = absurd (omega (arith, l))
+item_at (y ∷ ys) zero x l e = e
+item_at (y ∷ ys) (suc i) x l e = item_at ys i x (omega (arith, l)) e
+
+pub item_now : {X : Type 0} (xs ys : List X) (i : ℕ) (x : X) → ys ≡ xs → nat_lt i (length ys) ≡ true → x ≡ get_or ys i x → StandsAt xs i x
+item_now {X} xs ys i x same l e = let P : List X → Type 0 = λ z. StandsAt z i x in subst P same (item_at ys i x (ltb-true i (length ys) l) e)
 
 pub all_stands : {X : Type 0} (P : X → Type 0) (xs : List X) (i : ℕ) (x : X) → All P xs → StandsAt xs i x → P x
 all_stands P [] i x h s = absurd s
@@ -71,12 +109,6 @@ stands_first (suc m) [] k x l s = absurd s
 stands_first (suc m) (y ∷ ys) zero x l s = s
 stands_first (suc m) (y ∷ ys) (suc k) x l s = stands_first m ys k x (omega (arith, l)) s
 
-stands_pushed : (xs : List EventId) (y : EventId) (k : ℕ) (x : EventId) → StandsAt (xs ++ y ∷ []) k x → StandsAt xs k x ⊎ ((k ≡ length xs) × (x ≡ y))
-stands_pushed [] y zero x s = inr (refl, s)
-stands_pushed [] y (suc k) x s = absurd s
-stands_pushed (z ∷ zs) y zero x s = inl s
-stands_pushed (z ∷ zs) y (suc k) x s = elim (stands_pushed zs y k x s) [ inl t ↦ inl t | inr t ↦ inr (ap suc t.0, t.1) ]
-
 -- what a test of equality finds is among them
 pub found_in : (xs : List EventId) (x : EventId) → list_any (λ y. name_equality.eq y x) xs ≡ true → IsIn x xs
 found_in [] x h = absurd (let n : ◌≡◌ {A = Bool} (list_any (λ y. name_equality.eq y x) []) true = h in cc)
@@ -109,11 +141,13 @@ one_known ws vs read write x is long h s = λ k w t. (
 -- location 64 is none of an execution
 nobody : (g : GraphValue) (sources order : List EventId) → IsGraph g → All (IsNamed g.init g.runs) order → IsNobody (record { init = g.init; runs = g.runs; rf = sources; co = order ∷ [] }) (Initial 64)
 nobody g sources order graph named =
-    let unnamed : ¬ IsNamed g.init g.runs (Initial 64) = λ n. (let few = graph.few in let l : 64 < length g.init = n in omega (arith, l, few)) in
-    (unnamed, λ o i m. elim i [
-      | inl e ↦ unnamed (all_in (IsNamed g.init g.runs) order (Initial 64) named (let P : List EventId → Type 0 = λ z. IsIn (Initial 64) z in subst P e m))
-      | inr j ↦ absurd j
-    ])
+    let unnamed : ¬ IsNamed g.init g.runs (Initial 64) = λ n. (let few = graph.few in let l : 64 < length g.init = n in omega (arith, l, few)) in (
+      unnamed,
+      λ o i m. elim i [
+        | inl e ↦ unnamed (all_in (IsNamed g.init g.runs) order (Initial 64) named (let P : List EventId → Type 0 = λ z. IsIn (Initial 64) z in subst P e m))
+        | inr j ↦ absurd j
+      ],
+    )
 
 -- what refutes an excerpt forbids it in all executions of the structure
 pub refuted_by : (items : List Clause) (g : GraphValue) (sources order : List EventId) → IsGraph g → All (IsNamed g.init g.runs) order →
@@ -138,10 +172,10 @@ pub pair_named : (g : GraphValue) (p : Pair) → IsGraph g → HasPair p g → A
 pair_named g p graph has = all_part (IsNamed g.init g.runs) (p.first ∷ p.second ∷ []) has.0 has.2 (all_stands (All (IsNamed g.init g.runs)) g.co p.location has.0 graph.co has.1)
 
 -- so are those of rivals
-pub rivals_named : (g : GraphValue) (r : Rivals) → IsGraph g → HasOrder r g → (P : EventId → Type 0) → ((w : EventId) → IsNamed g.init g.runs w → P w) → P r.source × P r.first.write × P r.second.write
-rivals_named g r graph has P f =
+pub rivals_named : (g : GraphValue) (r : Rivals) → IsGraph g → HasOrder r g → IsNamed g.init g.runs r.source × IsNamed g.init g.runs r.first.write × IsNamed g.init g.runs r.second.write
+rivals_named g r graph has =
     let named : All (IsNamed g.init g.runs) has.0 = all_stands (All (IsNamed g.init g.runs)) g.co r.first.location has.0 graph.co has.1 in
-    let one : (w : EventId) → IsIn w has.0 → P w = λ w i. f w (all_in (IsNamed g.init g.runs) has.0 w named i) in
+    let one : (w : EventId) → IsIn w has.0 → IsNamed g.init g.runs w = λ w i. all_in (IsNamed g.init g.runs) has.0 w named i in
     (one r.source has.2, one r.first.write has.3, one r.second.write has.4)
 
 pub three_named : (g : GraphValue) (a b c : EventId) → IsNamed g.init g.runs a → IsNamed g.init g.runs b → IsNamed g.init g.runs c → All (IsNamed g.init g.runs) (a ∷ b ∷ c ∷ [])
@@ -182,18 +216,17 @@ in_order o w a b hw ha hb wa wb ab =
 
 -- where each order of three writes is refuted, no execution has them
 pub rivals_by : (items : List Clause) (s : Structure) (r : Rivals) → AreApart r →
-    IsNoReading items s r.first r.source (r.source ∷ r.second.write ∷ r.first.write ∷ []) → IsNoReading items s r.first r.source (r.first.write ∷ r.source ∷ []) →
-    IsNoReading items s r.second r.source (r.source ∷ r.first.write ∷ r.second.write ∷ []) → IsNoReading items s r.second r.source (r.second.write ∷ r.source ∷ []) → AreRivals items s r
-rivals_by items s r apart a b c d x same has =
+    ComesLate items s r.first r.source r.second.write → ComesLate items s r.second r.source r.first.write → AreRivals items s r
+rivals_by items s r apart one other x same has =
     let o : HasOrder r x = has.2 in
     elim (in_order o.0 r.source r.first.write r.second.write o.2 o.3 o.4 apart.0 apart.1 apart.2) [
       | inl h ↦ elim h [
-        | inl p ↦ a x same has.0 (r.first.location, o.0, o.1, p)
-        | inr p ↦ b x same has.0 (r.first.location, o.0, o.1, p)
+        | inl p ↦ one.0 x same has.0 (r.first.location, o.0, o.1, p)
+        | inr p ↦ one.1 x same has.0 (r.first.location, o.0, o.1, p)
       ]
       | inr h ↦ elim h [
-        | inl p ↦ c x same has.1 (r.first.location, o.0, o.1, p)
-        | inr p ↦ d x same has.1 (r.first.location, o.0, o.1, p)
+        | inl p ↦ other.0 x same has.1 (r.first.location, o.0, o.1, p)
+        | inr p ↦ other.1 x same has.1 (r.first.location, o.0, o.1, p)
       ]
     ]
 
@@ -237,9 +270,9 @@ pub one_forbidden : (items : List Clause) (w : Walking) (n : ℕ) (r : Reason) �
 one_forbidden items w n r next at has fatal = (
   omega (arith, next),
   λ m l u x is. (
-    let e : m ≡ n = omega (arith, next, l, u) in
-    let P : ℕ → Type 0 = λ i. graph_at w.space i ≡ Some x in
-    let f : w.shown ≡ x = some_graph w.shown x (sym at ∙ subst P e is) in
-    let Q : GraphValue → Type 0 = λ z. ¬ Allowed items z in
-    subst Q f (itself items r w.shown has fatal)),
+      let e : m ≡ n = omega (arith, next, l, u) in
+      let P : ℕ → Type 0 = λ i. graph_at w.space i ≡ Some x in
+      let f : w.shown ≡ x = some_graph w.shown x (sym at ∙ subst P e is) in
+      let Q : GraphValue → Type 0 = λ z. ¬ Allowed items z in
+      subst Q f (itself items r w.shown has fatal)),
 )

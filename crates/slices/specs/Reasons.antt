@@ -57,6 +57,10 @@ AreApart r = (r.source ≢ r.first.write) × (r.source ≢ r.second.write) × (r
 abbrev pub IsNoReading : List Clause → Structure → Exchange → EventId → List EventId → Type 0
 IsNoReading items s e w order = (x : GraphValue) → structure_of x ≡ s → StandsAt x.rf e.read w → IsPartOfOne x.co order → ¬ Allowed items x
 
+-- It allows none in which the exchange reads from the source, and its own write stands behind that and the other, or before it.
+abbrev pub ComesLate : List Clause → Structure → Exchange → EventId → EventId → Type 0
+ComesLate items s e source other = IsNoReading items s e source (source ∷ other ∷ e.write ∷ []) × IsNoReading items s e source (e.write ∷ source ∷ [])
+
 -- A model of these items allows no execution of this structure in which both read from the source.
 abbrev pub AreRivals : List Clause → Structure → Rivals → Type 0
 AreRivals items s r = (x : GraphValue) → structure_of x ≡ s → HaveOneSource r x → ¬ Allowed items x

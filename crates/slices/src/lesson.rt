@@ -46,6 +46,20 @@ pub(crate) struct Forbidden {
     pub(crate) end: u64,
 }
 
+/// The execution at this number, which the walk found last, alone.
+fn alone(walk: &Walk<'_>, number: u64) -> Forbidden
+    requires { walk.now.next ≡ number + 1 }
+    ensures { result.end ≡ number + 1 }
+{
+    // The number behind it is no larger than the end of any block.
+    let depth = walk.depths();
+    let _ = walk.end_of(depth);
+    Forbidden {
+        depth,
+        end: number + 1,
+    }
+}
+
 /// The widest block around the execution that the walk found last in which each has a reason that it has itself, if that is wider than another forbidden one.
 fn widen(walk: &Walk<'_>, reason: Reason, other: Forbidden) -> Forbidden
     requires { HasAt reason walk.now.shown }
@@ -66,6 +80,20 @@ fn widen(walk: &Walk<'_>, reason: Reason, other: Forbidden) -> Forbidden
         }
     }
     widest
+}
+
+/// The widest block around the execution at this number, which the walk found last, in which each has a reason that it has itself, or another forbidden
+/// one that is as wide.
+fn block_with(walk: &Walk<'_>, number: u64, reason: Reason, other: Option<Forbidden>) -> Forbidden
+    requires found { walk.now.next ≡ number + 1 }
+    requires shown { graph_at walk.now.space number ≡ Some walk.now.shown }
+    requires has { HasAt reason walk.now.shown }
+    ensures { (items : List Clause) → IsFatal items (structure_of walk.now.shown) reason → IfSome other (λ f. IsForbidden items walk.now f.end) → IsForbidden items walk.now result.end }
+{
+    match other {
+        Some(other) => widen(walk, reason, other),
+        None => widen(walk, reason, alone(walk, number)),
+    }
 }
 
 impl Lesson {
@@ -95,14 +123,7 @@ impl Lesson {
         let mut widest: Option<Forbidden> = None;
         for reason in &self.fatal {
             if reason.is_in(walk.graph()) {
-                let other = match widest {
-                    Some(other) => other,
-                    None => Forbidden {
-                        depth: walk.depths(),
-                        end: number + 1,
-                    },
-                };
-                widest = Some(widen(walk, *reason, other));
+                widest = Some(block_with(walk, number, *reason, widest));
             }
         }
         widest
@@ -188,13 +209,12 @@ impl Lesson {
         evaluator: &mut Evaluator<'_>,
         graph: &Graph,
     ) -> Result<bool, AllocError>
-        requires lesson { IsLesson evaluator.old.items self.old }
         requires structure { self.old.structure.structure ≡ structure_of graph.now }
         requires relied { IfSome evaluator.old.relied (λ s. s ≡ structure_of graph.now) }
         ensures model { evaluator.new.items ≡ evaluator.old.items }
         ensures relied { IfSome evaluator.new.relied (λ s. s ≡ structure_of graph.now) }
         ensures structure { self.new.structure ≡ self.old.structure }
-        ensures lesson { IsLesson evaluator.old.items self.new }
+        ensures lesson { IsLesson evaluator.old.items self.old → IsLesson evaluator.old.items self.new }
     {
         let Some(reason) = self.unasked(graph) else {
             return Ok(false);

@@ -48,11 +48,14 @@ impl Lessons {
 
     /// The place of the lesson of executions with the events of this one.
     fn place_of(&self, graph: &Graph) -> Option<usize>
-        ensures { IfSome result (λ k. (l : LessonValue) → StandsAt self.now.list.items k l → l.structure.structure ≡ structure_of graph.now) }
+        ensures { IfSome result (λ k. (k < length self.now.list.items) × ((l : LessonValue) → StandsAt self.now.list.items k l → l.structure.structure ≡ structure_of graph.now)) }
     {
-        self.list
-            .iter()
-            .position(|lesson| lesson.structure.is_of(graph))
+        for (place, lesson) in self.list.iter().enumerate() {
+            if lesson.structure.is_of(graph) {
+                return Some(place);
+            }
+        }
+        None
     }
 
     /// Finds the lesson of the executions from this number on, which the walk found last, as far as it is known that they have the same events.
@@ -72,7 +75,7 @@ impl Lessons {
             from: number,
             to: match walk.block(0) {
                 Some(block) => block.end,
-                None => number + 1,
+                None => number,
             },
         };
     }
@@ -130,15 +133,13 @@ impl Lessons {
         ensures relied { IfSome evaluator.new.relied (λ s. s ≡ structure_of graph.now) }
         ensures learned { (s : Choices) → AreLearned s evaluator.old.items self.old → AreLearned s evaluator.old.items self.new }
     {
-        let is_new = match self.place_for(alloc, graph)? {
-            Some(place) => self.list[place].learn(alloc, evaluator, graph)?,
-            None => false,
+        self.patience = self.patience.saturating_sub(1);
+        let Some(place) = self.place_for(alloc, graph)? else {
+            return Ok(());
         };
-        self.patience = if is_new {
-            PATIENCE
-        } else {
-            self.patience.saturating_sub(1)
-        };
+        if self.list[place].learn(alloc, evaluator, graph)? {
+            self.patience = PATIENCE;
+        }
         Ok(())
     }
 

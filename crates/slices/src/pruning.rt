@@ -138,10 +138,7 @@ impl Pruner {
         ensures forbidden { IfOk result (λ end. IfSome end (IsForbidden evaluator.old.items walk.now)) }
     {
         let learned = self.lessons.forbidden_around(walk, number);
-        let depths = match learned {
-            Some(block) => block.depth,
-            None => walk.depths(),
-        };
+        let depths = learned.map_or(walk.depths(), |block| block.depth);
         for depth in self.prospects.leave(number)..depths {
             if self.orderless && walk.knows_places(depth) {
                 break;

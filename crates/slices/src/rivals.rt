@@ -4,7 +4,7 @@ ghost use Rattle.std.specs.Prelude.{◌≡◌, ◌<◌, [], ◌∷◌, All, IfOk
 ghost use Rattle.events.specs.Executions.{GraphValue, IsNamed};
 ghost use Rattle.events.specs.Structures.{structure_of};
 ghost use Rattle.listings.specs.Lists.{StandsAt};
-ghost use Rattle.slices.specs.Reasons.{AreApart, AreRivals, HasOrder, HaveOneSource, IsNoReading};
+ghost use Rattle.slices.specs.Reasons.{AreApart, AreRivals, ComesLate, HasOrder, HaveOneSource};
 
 use crate::excerpts::{is_refuted, source_alone};
 use cat_eval::Evaluator;
@@ -91,8 +91,7 @@ impl Exchange {
         requires relied { IfSome evaluator.old.relied (λ s. s ≡ structure_of graph.now) }
         ensures model { evaluator.new.items ≡ evaluator.old.items }
         ensures relied { IfSome evaluator.new.relied (λ s. s ≡ structure_of graph.now) }
-        ensures behind { IfOk result (λ known. IsTrue known → IsNoReading evaluator.old.items (structure_of graph.now) self source (source ∷ other ∷ self.write ∷ [])) }
-        ensures before { IfOk result (λ known. IsTrue known → IsNoReading evaluator.old.items (structure_of graph.now) self source (self.write ∷ source ∷ [])) }
+        ensures late { IfOk result (λ known. IsTrue known → ComesLate evaluator.old.items (structure_of graph.now) self source other) }
     {
         let sources = source_alone(alloc, self.read, source)?;
         let behind = [source, other, self.write];
@@ -164,7 +163,10 @@ impl Rivals {
             second,
             source,
         } = self;
-        if !self.are_apart() || !first.comes_late(alloc, evaluator, graph, source, second.write)? {
+        if !self.are_apart() {
+            return Ok(false);
+        }
+        if !first.comes_late(alloc, evaluator, graph, source, second.write)? {
             return Ok(false);
         }
         second.comes_late(alloc, evaluator, graph, source, first.write)
