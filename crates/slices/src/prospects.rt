@@ -14,6 +14,9 @@ const JUDGEMENT: u64 = 64;
 /// What it costs to ask a block: to show what its executions have in common, and to judge that.
 const QUESTION: u64 = 96;
 
+/// What it costs to pass over a block for a reason that was learned.
+const PASSING: u64 = 12;
+
 /// What a block must cost to be worth asking whether it is allowed: where it is, it is counted by the writes that stand last, which costs as well.
 const LEAST: u64 = 3 * QUESTION;
 
@@ -168,9 +171,9 @@ impl Prospects {
         }
     }
 
-    /// Notes that executions were passed over, at next to no cost.
+    /// Notes that executions were passed over without a question.
     pub(crate) fn forbid(&mut self) {
-        self.spend(1);
+        self.spend(PASSING);
         self.forbidden = self.spent;
     }
 
