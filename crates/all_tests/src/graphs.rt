@@ -5,11 +5,14 @@
 //! event 0 of thread 0), or an order of writes (`co i0 0.0`). An event without an order has the one that is given beside the text.
 //! Behind its order stands what it depends on: `data0` or `ctrl0`.
 
-ghost use Rattle.std.specs.Prelude.{◌≡◌, ◌+◌, ◌≤◌, ◌↔◌, IsTrue, All, length, sum_by};
+ghost use Rattle.std.specs.Prelude.{◌≡◌, ◌+◌, ◌≤◌, ◌↔◌, IfSome, IsTrue, All, length, sum_by};
+ghost use Rattle.events.specs.Cuts.{IsOfEvents};
 ghost use Rattle.events.specs.Executions.{IsNamed, IsGraph};
 
 use crate::rows::{meant, number_of};
-use events::{Access, Coherence, Event, EventId, Graph, GraphParts, Order, Run, no_places};
+use events::{
+    Access, Coherence, Event, EventId, Excerpt, Graph, GraphParts, Order, Part, Run, no_places,
+};
 use relations::Places;
 use std::alloc::{AllocError, Global};
 
@@ -266,3 +269,20 @@ run | W 1 1 | R 0 0
 rf i1 i0
 co i0 0.0
 co i1 1.0";
+
+/// What is known where of an execution only these sources and the order of a location are.
+pub fn excerpt<'a>(
+    execution: &'a Graph,
+    sources: &'a [EventId],
+    location: usize,
+) -> Option<Part<'a>>
+    ensures { IfSome result (IsOfEvents execution.entry.now) }
+{
+    // They tell that the orders are of events.
+    let _ = execution.runs();
+    let order = execution.co().get(location)?;
+    Some(Part::Excerpt(Excerpt {
+        sources,
+        order: order.writes(),
+    }))
+}

@@ -3,7 +3,7 @@
 ghost use Rattle.std.specs.Prelude.{◌≡◌, IfOk};
 ghost use Rattle.events.specs.Structures.{sourced_of};
 
-use crate::graphs::graph;
+use crate::graphs::{excerpt, graph};
 use crate::names::name;
 use crate::rows::{again, all_hold, expect, meant};
 use cat_model::Named;
@@ -110,12 +110,27 @@ co 1-3 1-4 4-3
 coi 4-3
 coe 1-3 1-4";
 
+/// What is to be seen of the exchange where the source of P1's read alone is known, and is the write of P0's exchange.
+const SEEN_OF_EXCERPT: &str = "count 7
+RMW 1 2
+rmw 1-2
+po 1-2 1-3 2-3 4-5 4-6 5-6
+rf 2-5
+rfi
+rfe 2-5
+co 0-2 0-4 2-4
+coe 0-2 0-4 2-4
+fr 5-4
+fri 5-4
+fre";
+
 /// The executions, and what is to be seen of each: how many events there are, and the members of some sets and relations.
 const EXECUTIONS: &[(&str, (&str, &str))] = &[
     ("weak", (WEAK, SEEN_OF_WEAK)),
     ("strong", (STRONG, SEEN_OF_STRONG)),
     ("crossed", (CROSSED, SEEN_OF_WEAK)),
     ("exchange", (EXCHANGE, SEEN_OF_EXCHANGE)),
+    ("excerpt", (EXCHANGE, SEEN_OF_EXCERPT)),
     ("dependent", (DEPENDENT, SEEN_OF_DEPENDENT)),
 ];
 
@@ -132,6 +147,7 @@ taken apart and put together ==> weak again
 each reads the other ==> strong made
 an exchange and fences ==> exchange made
 dependencies ==> dependent made
+of one source and an order ==> excerpt partly
 a structure follows an execution ==> strong runs exchange
 # The runs of the two differ in what they read alone: in their values, which a structure leaves out, and so in their maps.
 a structure stays while other values are read ==> strong sources weak
@@ -257,12 +273,26 @@ fn follows(
     }
 }
 
+/// Is that to be seen where of an execution of two reads the source of the second alone is known, and is the exchange of P0, and the order of x?
+fn is_seen_of_excerpt(alloc: Global, execution: &Graph, seen: &str) -> Result<bool, AllocError> {
+    let sources = [Initial(64), Own(0, 1)];
+    let Some(part) = excerpt(execution, &sources, 0) else {
+        return Ok(false);
+    };
+    let mut sourced = SourcedStructure::of(alloc, execution)?;
+    let basis = sourced.follow_part(alloc, execution, &part)?;
+    let mut room = Rel::empty(0);
+    let view = GraphView::over_part(&sourced, execution, part, &mut room);
+    Ok(basis == Basis::Sources && is_seen(alloc, &view, seen)?)
+}
+
 /// Is that to be seen of an execution in a view that comes to be this way?
 fn is_seen_so(alloc: Global, execution: Graph, way: &str, seen: &str) -> Result<bool, AllocError> {
     match way.split_once(' ') {
         Some((told, from)) => follows(alloc, from, &execution, told, seen),
         None => match way {
             "again" => is_shown(alloc, &made_again(execution), seen),
+            "partly" => is_seen_of_excerpt(alloc, &execution, seen),
             _ => is_shown(alloc, &execution, seen),
         },
     }

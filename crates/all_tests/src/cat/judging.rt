@@ -22,6 +22,8 @@ pub enum Fact<'a> {
     Says(Order, bool, &'a str),
     /// Of a partial message passing of this order it is known, or isn't, that its model forbids all that goes on from it.
     Refutes(Order, bool),
+    /// Of two exchanges of which the sources are known that this word names it is known, or isn't, that its model forbids all that goes on from that.
+    RefutesExcerpt(&'a str, bool),
     /// Of two writes of each location of this order it is known in these cases that its model allows them wherever the open ones stand, and raises
     /// these flags.
     Opens(Order, Opened, &'a str),
@@ -69,6 +71,7 @@ pub fn fact_of(words: &str) -> Fact<'_> {
         return Fact::Files(word.parse::<usize>().unwrap_or(0));
     }
     match word {
+        "neither" | "first" | "second" | "both" => Fact::RefutesExcerpt(word, rest == "refuted"),
         "orderless" => Fact::Orderless(true),
         "ordered" => Fact::Orderless(false),
         "copied" => Fact::Copied,

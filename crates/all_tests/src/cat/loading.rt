@@ -2,7 +2,7 @@
 
 use crate::cat::judging::{Fact, fact_of, says};
 use crate::cat::opened::is_opened;
-use crate::cat::refuting::is_known;
+use crate::cat::refuting::{is_excerpt_known, is_known};
 use crate::names::name;
 use crate::rows::{again, expanded};
 use cat_eval::is_orderless;
@@ -105,6 +105,7 @@ fn model_has(alloc: Global, model: &Model, fact: Fact) -> Result<bool, AllocErro
         Fact::Files(count) => Ok(model.files().len() == count),
         Fact::Says(order, allowed, flags) => again!(_, says(alloc, model, order, allowed, flags)),
         Fact::Refutes(order, known) => is_known(alloc, model, order, known),
+        Fact::RefutesExcerpt(word, known) => is_excerpt_known(alloc, model, word, known),
         Fact::Opens(order, opened, flags) => is_opened(alloc, model, order, opened, flags),
         Fact::Orderless(known) => Ok(is_orderless(model) == known),
         _ => Ok(false),

@@ -1,7 +1,7 @@
 //! What models say of all executions that go on from what is known of one.
 
 use crate::cat::loading::is_so;
-use crate::graphs::{STORE_BUFFERING, graph};
+use crate::graphs::{STORE_BUFFERING, excerpt, graph};
 use crate::rows::all_hold;
 use cat_eval::{Evaluator, judge};
 use cat_model::Model;
@@ -19,6 +19,15 @@ run | R 1 1 | R 0 0 | R 0 1
 rf 0.1 i0 0.0
 co i0 0.0
 co i1 0.1";
+
+/// An exchange of x by each of two threads, both of which read the initial write; that of P0 stands first.
+///
+/// Event 0 is the initial write, 1 and 2 the read and the write of P0, 3 and 4 those of P1. So rmw is (1,2) (3,4), and co (0,2) (0,4) (2,4).
+const TWO_EXCHANGES: &str = "init 0
+run 0 | xR 0 0 | xW 0 1
+run 0 | xR 0 0 | xW 0 2
+rf i0 i0
+co i0 0.1 1.1";
 
 /// Whether an evaluator that forgets the runs of another execution judges this one as it is judged alone.
 pub fn judges_another(
@@ -65,6 +74,34 @@ pub fn is_known(
     says_twice(alloc, model, &execution, known)
 }
 
+/// The sources of the reads of the two exchanges that are known, where the initial write of location 64 stands for the others.
+fn sources_of<'a>(word: &str) -> &'a [EventId] {
+    match word {
+        "first" => &[EventId::Initial(0)],
+        "second" => &[EventId::Initial(64), EventId::Initial(0)],
+        "both" => &[EventId::Initial(0), EventId::Initial(0)],
+        _ => &[],
+    }
+}
+
+/// Whether a model is known, or isn't known, to forbid all executions with the events of the two exchanges in which the writes stand in the same order, and
+/// the reads that a word names have the same sources.
+pub fn is_excerpt_known(
+    alloc: Global,
+    model: &Model,
+    word: &str,
+    known: bool,
+) -> Result<bool, AllocError> {
+    let execution = graph(alloc, TWO_EXCHANGES, Order::Rlx)?;
+    let Some(part) = excerpt(&execution, sources_of(word), 0) else {
+        return Ok(false);
+    };
+    let mut evaluator = Evaluator::of(alloc, model, &execution)?;
+    let refuted = evaluator.refutes(alloc, &execution, part)?;
+    let judges = judges_another(alloc, model, &mut evaluator, &execution)?;
+    Ok(refuted == known && judges)
+}
+
 /// Of each that is refuted nothing that goes on from message passing is allowed, whatever comes; of what is open nothing is said.
 const REFUTED: &str = "# refuted
 acyclic po | rf | co | fr ==> refuted
@@ -76,7 +113,22 @@ let rec r = fr | r ; r empty r ==> refuted
 let rec a = b and b = po | rf ; a empty a ==> refuted
 let new(r) = r \\ po empty new(fr) ==> refuted
 include \"rc11.cat\" ==> sc refuted
+# Of two exchanges. Where the second reads the initial write, that of the first stands between.
+empty rmw & (fr ; co) ==> both refuted
+empty rmw & (fr ; co) ==> second refuted
+include \"rc11.cat\" ==> second refuted
+empty rf ==> first refuted
+empty rf ==> second refuted
+empty fr ==> first refuted
+empty co ==> neither refuted
 # silent
+empty rmw & (fr ; co) ==> first open
+empty rmw & (fr ; co) ==> neither open
+include \"rc11.cat\" ==> first open
+empty rf ==> neither open
+empty fr ==> neither open
+~empty co ==> both open
+acyclic po | rf | co | fr ==> both open
 include \"rc11.cat\" ==> open
  ==> open
 acyclic po | rf ==> open

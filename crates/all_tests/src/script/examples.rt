@@ -436,6 +436,35 @@ Observation counter Never 0 2
 ---
 ...
 Observation counter Sometimes 4 2
+=== sequences_and_exchanges: additions of four threads, one behind another in any of 24 orders
+C ADDS
+{}
+P0 (atomic_int* x) {
+  int r0 = atomic_fetch_add_explicit(x, 1, memory_order_relaxed);
+}
+P1 (atomic_int* x) {
+  int r0 = atomic_fetch_add_explicit(x, 1, memory_order_relaxed);
+}
+P2 (atomic_int* x) {
+  int r0 = atomic_fetch_add_explicit(x, 1, memory_order_relaxed);
+}
+P3 (atomic_int* x) {
+  int r0 = atomic_fetch_add_explicit(x, 1, memory_order_relaxed);
+}
+forall ([x]=4)
++++ one
+%RC11%
+%sc.cat%
+%tso.cat%
+---
+Test ADDS Required
+States 1
+[x]=4;
+Ok
+Witnesses
+Positive: 24 Negative: 0
+Condition forall ([x]=4)
+Observation ADDS Always 24 0
 === sequences_and_exchanges: initial
 %initial.litmus%
 +++ one
