@@ -80,10 +80,19 @@ impl Prepared {
     {
         let items = planned(alloc, model.items(), &self.choice.used.item_steps)?;
         let Prepared { choice } = self;
+        let Choice {
+            used,
+            others,
+            serves: _,
+        } = choice;
         Ok(Evaluator {
             items,
             relies: false,
-            choice,
+            choice: Choice {
+                used,
+                others,
+                serves: false,
+            },
         })
     }
 }

@@ -9,24 +9,13 @@ use Rattle.cat_eval.specs.Code.{planned_clause}
 use Rattle.cat_eval.specs.Evaluators.{EvaluatorValue}
 use Rattle.cat_eval.specs.Judging.{Allowed, Raised}
 use Rattle.cat_eval.proofs.evaluator.Evaluator.judge_opened_followed.Goals as goal
-use Rattle.cat_eval.proofs.evaluator.Evaluator.judge_opened_followed.Goals.{then-not-relies+in_ok-choose, else-not-relies}
 
 pub returns-clause-allowed : goal.returns-clause-allowed
 returns-clause-allowed c =
     let P : List Clause → Type 0 = λ items. IfOk c.judge_opened.result (λ o. IfSome o (λ j. (j.allowed ≡ true) × ((h : GraphValue) → IsWithin h (opened c.args.graph.now c.args.cut) → Allowed items h))) in
-    let same : c.if-not-relies.self-inside.items.items ≡ c.self.inside.items.items =
-    elim c.if-not-relies.branch [
-      | then-not-relies+in_ok-choose w ↦ rw w.self-inside-is refl
-      | else-not-relies w ↦ rw w.self-inside-is refl
-    ] in
-    subst P (ap (λ (xs : List PlannedItem). map planned_clause xs) (c.deref-2.ensures.value ∙ same) ∙ ap (λ (e : EvaluatorValue). e.items) c.self.view_is) c.judge_opened.ensures.allowed
+    subst P (ap (λ (xs : List PlannedItem). map planned_clause xs) c.deref-2.ensures.value ∙ ap (λ (e : EvaluatorValue). e.items) c.self.view_is) c.judge_opened.ensures.allowed
 
 pub returns-clause-flags : goal.returns-clause-flags
 returns-clause-flags c =
     let P : List Clause → Type 0 = λ items. IfOk c.judge_opened.result (λ o. IfSome o (λ j. (h : GraphValue) → IsWithin h (opened c.args.graph.now c.args.cut) → Lists {X = Word} (λ name. Allowed items h × Raised items h name) j.flags)) in
-    let same : c.if-not-relies.self-inside.items.items ≡ c.self.inside.items.items =
-    elim c.if-not-relies.branch [
-      | then-not-relies+in_ok-choose w ↦ rw w.self-inside-is refl
-      | else-not-relies w ↦ rw w.self-inside-is refl
-    ] in
-    subst P (ap (λ (xs : List PlannedItem). map planned_clause xs) (c.deref-2.ensures.value ∙ same) ∙ ap (λ (e : EvaluatorValue). e.items) c.self.view_is) c.judge_opened.ensures.flags
+    subst P (ap (λ (xs : List PlannedItem). map planned_clause xs) c.deref-2.ensures.value ∙ ap (λ (e : EvaluatorValue). e.items) c.self.view_is) c.judge_opened.ensures.flags

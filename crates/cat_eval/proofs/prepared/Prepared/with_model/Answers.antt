@@ -13,8 +13,10 @@ invariant_of-result c =
     let qs = c.in_ok-items.items.items in
     let clauses : map planned_clause qs ≡ c.args.model.now.items = c.in_ok-items.ensures.clauses ∙ c.items.ensures.value in
     let M : List Clause → Type 0 = λ cs. IsModel cs in
+    let works = work_too ps qs c.args.self.choice (c.requires.clauses ∙ sym clauses) (c.requires.works.used.item_steps ∙ sym (c.in_ok-items.ensures.item_steps ∙ c.deref-2.ensures.value ∙ ap (λ (w : Workings). w.item_steps.items) c.deref.ensures)) c.requires.works in
     record {
       model = subst M (sym clauses) c.requires.model;
-      works = work_too ps qs c.args.self.choice (c.requires.clauses ∙ sym clauses) (c.requires.works.used.item_steps ∙ sym (c.in_ok-items.ensures.item_steps ∙ c.deref-2.ensures.value ∙ ap (λ (w : Workings). w.item_steps.items) c.deref.ensures)) c.requires.works;
-      serve = λ t. absurd (false≢true t);
+      works = record { used = works.used; others = works.others; whole = works.whole };
+      served = λ t. absurd (false≢true t);
+      relies = λ t. absurd (false≢true t);
     }
